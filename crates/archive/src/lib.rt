@@ -1,0 +1,1 @@
+// Archives and the six calls: definitions and theorems alone.

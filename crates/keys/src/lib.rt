@@ -1,0 +1,1 @@
+// Key lists, addresses and legal versions: definitions and laws alone.

@@ -1,0 +1,1 @@
+// The theory of keyed versions: definitions and theorems alone.

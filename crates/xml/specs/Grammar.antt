@@ -1,0 +1,46 @@
+-- The XML subset as a grammar: "Version texts" of document 01, a rule for each sentence.
+use Prim.Native.Nat.{ℕ}
+use Prim.Native.Char.{code}
+use mathlib.Core.Path.{_≡_}
+use mathlib.Core.Bool.{Bool, true, false}
+use mathlib.Core.List.{List, [], _∷_, _++_}
+use Rattle.xml.specs.Bytes.{Bytes, bytes, all, isEmpty, occurs, isWhite, isCharacter, isName, isTimes}
+use Rattle.xml.specs.Forest.{Forest, end, elem, text, stamp, NotText, Root}
+
+-- "the five entities `&lt; &gt; &amp; &quot; &apos;`", and the byte that each stands for
+pub data Entity : Bytes → ℕ → Type 0 where
+  lt : Entity (bytes "&lt;") (code "<")
+  gt : Entity (bytes "&gt;") (code ">")
+  amp : Entity (bytes "&amp;") (code "&")
+  quot : Entity (bytes "&quot;") (code "\"")
+  apos : Entity (bytes "&apos;") (code "'")
+
+-- "Text is bytes 20 to 7E hexadecimal, tab, LF and CR, each kept as it is; `<` and `&` only as markup": raw bytes, and what they mean
+pub data Characters : Bytes → Bytes → Type 0 where
+  none : Characters [] []
+  kept : {b : ℕ} {s t : Bytes} → isCharacter b ≡ true → Characters s t → Characters (b ∷ s) (b ∷ t)
+  entity : {e : Bytes} {c : ℕ} {s t : Bytes} → Entity e c → Characters s t → Characters (e ++ s) (c ∷ t)
+
+-- "An element holds content and content holds elements": a text, and the forest that it spells; `a` where the text is an archive's
+pub data Content (a : Bool) : Bytes → Forest → Type 0 where
+  nothing : Content a [] end
+  -- a maximal run of text; "`]]>` is illegal"
+  run : {s t u : Bytes} {r : Forest} → Characters s t → isEmpty s ≡ false → occurs (bytes "]]>") s ≡ false → NotText r → Content a u r → Content a (s ++ u) (text t r)
+  -- "Tags are `<name>`, `</name>`, `<name/>`, with no white space inside."
+  element : {n s u : Bytes} {k r : Forest} → isName n ≡ true → Content a s k → Content a u r
+      → Content a (bytes "<" ++ n ++ bytes ">" ++ s ++ bytes "</" ++ n ++ bytes ">" ++ u) (elem n k r)
+  lone : {n u : Bytes} {r : Forest} → isName n ≡ true → Content a u r → Content a (bytes "<" ++ n ++ bytes "/>" ++ u) (elem n end r)
+  -- an archive's `<T t="..">`
+  times : {t s u : Bytes} {k r : Forest} → a ≡ true → all isTimes t ≡ true → Content a s k → Content a u r
+      → Content a (bytes "<T t=\"" ++ t ++ bytes "\">" ++ s ++ bytes "</T>" ++ u) (stamp t k r)
+
+-- "One root element, white space (tab, LF, CR, space) allowed around it."
+pub record Spells (a : Bool) (s : Bytes) (f : Forest) : Type 0 where
+  pub before : Bytes
+  pub inner : Bytes
+  pub after : Bytes
+  pub text-is : s ≡ before ++ inner ++ after
+  pub white-before : all isWhite before ≡ true
+  pub white-after : all isWhite after ≡ true
+  pub content : Content a inner f
+  pub root : Root f
