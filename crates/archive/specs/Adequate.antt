@@ -2,10 +2,10 @@
 -- back to i, and histories are the sets of versions that hold the address.
 use Prim.Native.Nat.{ℕ, zero, suc, _+_, _≤_, _<_}
 use native.Mathlib.Omega.{arith}
-use mathlib.Core.Path.{_≡_, refl, sym, _∙_, ap, ap₂}
+use mathlib.Core.Path.{_≡_, refl, sym, _∙_, ap, ap₂, subst}
 use mathlib.Core.Bool.{Bool, true, false, not, _&&_, _||_}
 use mathlib.Core.List.{List, [], _∷_, _++_, map}
-use borrow.Author.Tests.{ltb-false}
+use borrow.Author.Tests.{ltb-false, le-ltb}
 use lib.Dec.{ltb}
 use lib.ListN.{length, take, length-map}
 use lib.Seq.{length-take-le}
@@ -29,9 +29,11 @@ use Rattle.keys.specs.Tree.{Content, contents, keyed}
 use Rattle.keys.specs.Legal.{LegalVersion}
 use Rattle.keys.specs.TreeParts.{tree-height}
 use Rattle.keys.specs.HoldsLaws.{holds-tree}
-use Rattle.archive.specs.Archive.{Archive, archive, archiveDirect, archiveForest, archiveOf}
+use Rattle.archive.specs.Archive.{Archive, archive, archiveDirect, archiveForest, archiveOf, archiveText}
 use Rattle.archive.specs.NodesBack.{nodes-back}
-use Rattle.archive.specs.LegalLaws.{all-trees, all-ascend, legal-of}
+use Rattle.archive.specs.BackLength.{length-back}
+use Rattle.archive.specs.LegalLaws.{all-trees, all-ascend, all-legal, legal-of, archive-legal}
+use Rattle.archive.specs.Calls.{storable}
 
 map-take : {A B : Type 0} (f : A → B) (i : ℕ) (xs : List A) → map f (take i xs) ≡ take i (map f xs)
 map-take f zero xs = refl
@@ -82,3 +84,24 @@ module _ (keys : Bytes) (K : KeyList) (k : keyList keys ≡ ok K) where
         let h = legal-of keys K k vs legal there counted in
         let e : length (take i vs) ≡ i = length-take-le i vs b in
         rw (e, archive-back i b) (nodes-back K (length vs) i (archive K vs) (h .formed) (h .lawful))
+
+    -- and no byte
+    pub back-bytes : (i : ℕ) → 1 ≤ i → i ≤ length vs → 1 ≤ length vs → length vs ≤ 999 → length (write (archiveOf K (take i vs))) ≤ length (write (archiveOf K vs))
+    unfolding archiveOf
+    back-bytes i l b there counted =
+        let e : length (take i vs) ≡ i = length-take-le i vs b in
+        rw (e, archive-back i b) (length-back K (length vs) i (archive K vs) (legal-of keys K k vs legal there counted) counted l b)
+
+  -- "Stepping back can't meet 13."
+  pub back-storable : (s : Bytes) (vs : List Forest) → archiveText K s ≡ ok vs → length s ≤ 32768 → (i : ℕ) → 1 ≤ i → i ≤ length vs → storable (archiveOf K (take i vs)) ≡ ok tt
+  unfolding storable
+  back-storable s vs e m i l b =
+      let x = archive-legal keys K k s vs e in
+      let h : All (LegalVersion K) vs = subst (All (LegalVersion K)) (x .1) (all-legal keys K k (x .0 .each-legal)) in
+      let lo : 1 ≤ length vs = subst (λ ws. 1 ≤ length ws) (x .1) (x .0 .some-there) in
+      let hi : length vs ≤ 999 = subst (λ ws. length ws ≤ 999) (x .1) (x .0 .not-more) in
+      let q : s ≡ write (archiveOf K vs) = x .0 .exactly ∙ ap (λ ws. write (archiveOf K ws)) (x .1) in
+      let n : nodes (archiveOf K vs) ≤ 1024 = subst (λ ws. nodes (archiveOf K ws) ≤ 1024) (x .1) (x .0 .small) in
+      let u : ltb 1024 (nodes (archiveOf K (take i vs))) ≡ false = le-ltb 1024 (nodes (archiveOf K (take i vs))) (omega (arith, back-nodes vs h i l b lo hi)) in
+      let w : ltb 32768 (length (write (archiveOf K (take i vs)))) ≡ false = le-ltb 32768 (length (write (archiveOf K (take i vs)))) (omega (arith, back-bytes vs h i l b lo hi, ap length q)) in
+      rw (u, w) refl

@@ -19,6 +19,7 @@ use Rattle.xml.specs.Truth.{bool-by, and-left, and-right}
 use Rattle.keys.specs.Version.{_▸_, nameIn}
 use Rattle.keys.specs.Tree.{Content, inner, front, contents, heldBy, forestOf}
 use Rattle.keys.specs.Legal.{untimed, Kind, Lawful}
+use Rattle.xml.specs.Complete.{join-end}
 use Rattle.archive.specs.Times.{Times, sameTimes, always, writeTimes, belongs}
 use Rattle.archive.specs.TimesLaws.{times-not, belongs-times}
 use Rattle.archive.specs.Archive.{Archive, wrap, branches, holding, stamped, archiveForest, pick}
@@ -34,13 +35,6 @@ untimed-pick i (elem m k r) e =
     ap₂ (elem m) (untimed-pick i k (and-right (not (same m (bytes "T"))) (untimed k) (and-left (not (same m (bytes "T")) && untimed k) (untimed r) e)))
     (untimed-pick i r (and-right (not (same m (bytes "T")) && untimed k) (untimed r) e))
 untimed-pick i (stamp t k r) e = absurd (clash e refl)
-
-pub join-end : (f : Forest) → join f end ≡ f
-unfolding join
-join-end end = refl
-join-end (text b r) = ap (text b) (join-end r)
-join-end (elem m k r) = ap (elem m k) (join-end r)
-join-end (stamp t k r) = ap (stamp t k) (join-end r)
 
 -- ---- sets: an element stands in the versions that have a content of it
 get-or : (i : ℕ) (p q : Times) → getD (orL p q) i false ≡ (getD p i false || getD q i false)

@@ -46,7 +46,7 @@ held-inner n ((t, inner) ∷ (u, inner) ∷ gs) kids w h = absurd (clash refl (w
 
 -- ---- elements of a name among written siblings
 -- another element is passed over, bare or in its `T`
-called-other : (key m : Bytes) (p t : Times) (x r : Forest) → same key m ≡ false → called key (wrap p t (elem m x) r) ≡ called key r
+pub called-other : (key m : Bytes) (p t : Times) (x r : Forest) → same key m ≡ false → called key (wrap p t (elem m x) r) ≡ called key r
 unfolding called wrap
 called-other key m p t x r e =
     bool-by (λ b. called key (elim b as (λ _. Forest) [ true ↦ elem m x r | false ↦ stamp (writeTimes t) (elem m x end) r ]) ≡ called key r)
@@ -100,14 +100,14 @@ no-values P (n ∷ ns) (v ∷ vs) e k h z = let b : _≡_ {A = ℕ} 0 1 = cc in 
 
 module _ (K : KeyList) (u : rulesKept K ≡ true) (n : ℕ) (q : Path) (key : Bytes) (is-key : any (same key) (keyNamesAt K q) ≡ true) where
   -- a child with the name of a key has no label but that name
-  key-label : (l : Label) (gs : Groups Content) (k r : Archive) → LawfulArchive K n q (node l gs k r) → same key (nameIn l) ≡ true → l ≡ key ∷ []
+  pub key-label : (l : Label) (gs : Groups Content) (k r : Archive) → LawfulArchive K n q (node l gs k r) → same key (nameIn l) ≡ true → l ≡ key ∷ []
   unfolding Lawful
   key-label l gs k r h e =
       let d = same-is key (nameIn l) e in
       let b : keyNamesAt K (q ▸ nameIn l) ≡ [] = ap (λ m. keyNamesAt K (q ▸ m)) (sym d) ∙ key-bare K q key u is-key in
       label-parts l (h .0) ∙ ap₂ (λ m vs. m ∷ vs) (sym d) (no-values (KeyEntry n) _ (valuesIn l) gs k (h .4) b)
 
-  called-none : (t : Times) (k : Archive) → WFS labels contents n k → LawfulArchive K n q k → Before labels (key ∷ []) k → called key (stamped n t k) ≡ []
+  pub called-none : (t : Times) (k : Archive) → WFS labels contents n k → LawfulArchive K n q k → Before labels (key ∷ []) k → called key (stamped n t k) ≡ []
   unfolding stamped called WFBy Lawful
   called-none t nil w h b = refl
   called-none t (node l gs k r) w h b =

@@ -56,7 +56,7 @@ all-good : all good (upFrom 1 999) ≡ true
 unfolding times-compute good
 all-good = refl
 
-all-from : (P : ℕ → Bool) (i n m : ℕ) → all P (upFrom i n) ≡ true → i ≤ m → m < i + n → P m ≡ true
+pub all-from : (P : ℕ → Bool) (i n m : ℕ) → all P (upFrom i n) ≡ true → i ≤ m → m < i + n → P m ≡ true
 unfolding upFrom all
 all-from P i zero m h l u = absurd (omega arith)
 all-from P i (suc n) m h l u = same-or i m
