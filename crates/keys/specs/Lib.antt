@@ -21,3 +21,5 @@ pub mod FindLaws
 pub mod HoldsLaws
 pub mod KeyFound
 pub mod TreeLaws
+pub mod Table
+pub mod Placed
