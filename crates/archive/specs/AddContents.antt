@@ -15,8 +15,8 @@ use Rattle.model.specs.Stored.{maskG, or-blank}
 use Rattle.xml.specs.Truth.{bool-by}
 use Rattle.keys.specs.Tree.{Content, inner, front, contents, sameContent, heldBy}
 use Rattle.keys.specs.Legal.{untimed}
-use Rattle.archive.specs.Times.{Times, sameTimes, onlyAfter, writeTimes}
-use Rattle.archive.specs.TimesLaws.{times-not, write-lacks}
+use Rattle.timestamp.specs.Times.{Times, sameTimes, onlyAfter, writeTimes}
+use Rattle.timestamp.specs.TimesLaws.{times-not, write-lacks}
 use Rattle.archive.specs.Archive.{wrap, branches, holding}
 use Rattle.archive.specs.Lawful.{InnerEntry, FrontEntry}
 use Rattle.archive.specs.Walk.{timesIn, newest, addBranch, addBare, addContent}

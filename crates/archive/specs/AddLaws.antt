@@ -24,8 +24,8 @@ use Rattle.keys.specs.Legal.{LegalVersion, Kind, Lawful, InnerContent, FrontCon
 use Rattle.keys.specs.TreeLabels.{named}
 use Rattle.keys.specs.TreeLaws.{legal-tree}
 use Rattle.keys.specs.TreeParts.{forest-tree}
-use Rattle.archive.specs.Times.{Times, sameTimes, always, writeTimes}
-use Rattle.archive.specs.TimesLaws.{times-is}
+use Rattle.timestamp.specs.Times.{Times, sameTimes, always, writeTimes}
+use Rattle.timestamp.specs.TimesLaws.{times-is}
 use Rattle.archive.specs.Archive.{Archive, wrap, holding, stamped, archiveForest}
 use Rattle.archive.specs.Lawful.{InnerEntry, FrontEntry, LawfulArchive, Rooted, LegalArchive}
 use Rattle.archive.specs.Walk.{insideOf, newest, addContent, addNew, addAt, addIn, addForest}

@@ -13,8 +13,8 @@ use Rattle.model.specs.Groups.{Groups, addG, WFG}
 use Rattle.model.specs.Stored.{maskG, mergeS, WFS, mask-add}
 use Rattle.keys.specs.Version.{Label, nameIn}
 use Rattle.keys.specs.Tree.{Content, contents, heldBy, forestOf}
-use Rattle.archive.specs.Times.{Times, onlyAfter, writeTimes}
-use Rattle.archive.specs.TimesLaws.{write-lacks}
+use Rattle.timestamp.specs.Times.{Times, onlyAfter, writeTimes}
+use Rattle.timestamp.specs.TimesLaws.{write-lacks}
 use Rattle.archive.specs.Archive.{Archive, wrap, holding, stamped}
 use Rattle.archive.specs.Walk.{newest}
 use Rattle.archive.specs.StampedLabels.{wrap-bare}

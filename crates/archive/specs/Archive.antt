@@ -19,7 +19,7 @@ use Rattle.keys.specs.Result.{Result, refused, ok, _>>=_, _>>_, refuse, refused
 use Rattle.keys.specs.Version.{Label, nameIn, parsed, version}
 use Rattle.keys.specs.Address.{address-compute}
 use Rattle.keys.specs.Tree.{Content, contents, keyed, heldBy, tree-compute}
-use Rattle.archive.specs.Times.{Times, sameTimes, always, writeTimes, belongs, lastNumber, times-compute}
+use Rattle.timestamp.specs.Times.{Times, sameTimes, always, writeTimes, belongs, lastNumber, times-compute}
 
 -- "Each keyed element stands once among its siblings, in the order above, with the set of versions containing it": with its distinct
 -- contents, each with its versions; above a frontier the one content `inner`, and the keyed elements that it holds

@@ -16,8 +16,8 @@ use Rattle.xml.specs.Forest.{Forest, end, elem, text, stamp, join}
 use Rattle.xml.specs.Truth.{bool-by, and-left, and-right}
 use Rattle.keys.specs.Tree.{Content, inner, front, contents, heldBy}
 use Rattle.keys.specs.Legal.{untimed, Kind, InnerContent}
-use Rattle.archive.specs.Times.{Times, sameTimes, writeTimes}
-use Rattle.archive.specs.TimesLaws.{times-self, times-not}
+use Rattle.timestamp.specs.Times.{Times, sameTimes, writeTimes}
+use Rattle.timestamp.specs.TimesLaws.{times-self, times-not}
 use Rattle.archive.specs.SetLaws.{timesIn-cut, ever-any}
 use Rattle.archive.specs.Archive.{Archive, branches, holding, wrap}
 use Rattle.archive.specs.Walk.{timesIn, ever, backIn}

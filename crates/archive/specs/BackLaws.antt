@@ -16,8 +16,8 @@ use Rattle.xml.specs.Truth.{bool-by}
 use Rattle.keys.specs.Version.{_▸_, Label, nameIn}
 use Rattle.keys.specs.Tree.{contents}
 use Rattle.keys.specs.Legal.{Lawful}
-use Rattle.archive.specs.Times.{Times, sameTimes, always, writeTimes}
-use Rattle.archive.specs.TimesLaws.{times-is}
+use Rattle.timestamp.specs.Times.{Times, sameTimes, always, writeTimes}
+use Rattle.timestamp.specs.TimesLaws.{times-is}
 use Rattle.archive.specs.Archive.{Archive, wrap, holding, stamped, archiveForest}
 use Rattle.archive.specs.Walk.{backIn, insideOf, backForest}
 use Rattle.archive.specs.Lawful.{LawfulArchive, LegalArchive}

@@ -17,7 +17,7 @@ use Rattle.xml.specs.Truth.{bool-by, and-left, and-right}
 use Rattle.keys.specs.Version.{_▸_, nameIn}
 use Rattle.keys.specs.Tree.{Content, inner, front, contents}
 use Rattle.keys.specs.Legal.{untimed, Kind, Lawful}
-use Rattle.archive.specs.Times.{Times, sameTimes, always, writeTimes}
+use Rattle.timestamp.specs.Times.{Times, sameTimes, always, writeTimes}
 use Rattle.archive.specs.Archive.{Archive, wrap, branches, holding, stamped, archiveForest}
 use Rattle.archive.specs.Walk.{backIn, insideOf, backForest}
 use Rattle.archive.specs.Lawful.{InnerEntry, FrontEntry, LawfulArchive, LegalArchive}

@@ -12,7 +12,7 @@ use Rattle.keys.specs.Result.{Refusal, r1, r2, r3, r4, r5, r6, r7, r8, r9, r10,
 use Rattle.keys.specs.KeyList.{KeyList, keyList}
 use Rattle.keys.specs.Version.{Label, version}
 use Rattle.keys.specs.Address.{address, holds}
-use Rattle.archive.specs.Times.{writeTimes}
+use Rattle.timestamp.specs.Times.{writeTimes}
 use Rattle.archive.specs.Archive.{archiveOf, archiveText}
 use Rattle.archive.specs.Calls.{Answer, answer, room, atMost, notFull, storable, give, found, add, retrieve, history, stepBack, versionAt, versionsTo}
 

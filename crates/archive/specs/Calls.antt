@@ -11,7 +11,7 @@ use Rattle.xml.specs.Forest.{Forest, end, write, nodes}
 use Rattle.keys.specs.KeyList.{KeyList, keyList}
 use Rattle.keys.specs.Version.{version}
 use Rattle.keys.specs.Address.{address, holds}
-use Rattle.archive.specs.Times.{writeTimes}
+use Rattle.timestamp.specs.Times.{writeTimes}
 use Rattle.archive.specs.Archive.{archiveOf, archiveText, archive-compute}
 
 -- "A success returns 0 and a length n: the output's first n bytes are the result"; "With each [refusal]: length 0"

@@ -19,8 +19,8 @@ use Rattle.xml.specs.Truth.{and-left, and-right, and-both, both-true}
 use Rattle.keys.specs.Version.{tooLarge}
 use Rattle.xml.specs.Complete.{join-end}
 use Rattle.archive.specs.BackLaws.{any-always, length-always}
-use Rattle.archive.specs.Times.{always, upFrom, belongs, writeTimes, lastNumber}
-use Rattle.archive.specs.TimesLaws.{belongs-times, last-always}
+use Rattle.timestamp.specs.Times.{always, upFrom, belongs, writeTimes, lastNumber}
+use Rattle.timestamp.specs.TimesLaws.{belongs-times, last-always}
 use Rattle.archive.specs.Archive.{Archive, stamped, archiveForest, pick}
 use Rattle.archive.specs.Lawful.{Rooted, LegalArchive}
 use Rattle.archive.specs.Walk.{isSole, siblingsLegal, allSmall, forestLegal}

@@ -17,8 +17,8 @@ use Rattle.model.specs.Stored.{maskG, orL}
 use Rattle.keys.specs.Tree.{Content, inner, front, sameContent, contents}
 use Rattle.keys.specs.Legal.{untimed}
 use Rattle.xml.specs.Truth.{and-left, and-right, and-both}
-use Rattle.archive.specs.Times.{Times, sameTimes, writeTimes}
-use Rattle.archive.specs.TimesLaws.{times-is, times-self}
+use Rattle.timestamp.specs.Times.{Times, sameTimes, writeTimes}
+use Rattle.timestamp.specs.TimesLaws.{times-is, times-self}
 use Rattle.archive.specs.Archive.{branches, holding}
 use Rattle.archive.specs.Lawful.{FrontEntry}
 use Rattle.archive.specs.Walk.{timesIn, canonical, ever, disjoint, earlier, branchesIn, allTimed, apart, contentsApart, together, frontLegal}

@@ -22,8 +22,8 @@ use Rattle.keys.specs.Version.{_▸_, Label, nameIn, sameLabel, label}
 use Rattle.keys.specs.Address.{valuesIn, stepsKnown}
 use Rattle.keys.specs.Tree.{Content, contents}
 use Rattle.keys.specs.Legal.{Kind, Lawful}
-use Rattle.archive.specs.Times.{Times, sameTimes, always, writeTimes}
-use Rattle.archive.specs.TimesLaws.{times-is, write-none}
+use Rattle.timestamp.specs.Times.{Times, sameTimes, always, writeTimes}
+use Rattle.timestamp.specs.TimesLaws.{times-is, write-none}
 use Rattle.archive.specs.Archive.{Archive, wrap, holding, stamped, archiveForest}
 use Rattle.archive.specs.Walk.{orElse, orEmpty, historyIn, historyForest}
 use Rattle.archive.specs.Lawful.{InnerEntry, FrontEntry, LawfulArchive, LegalArchive}

@@ -21,8 +21,8 @@ use Rattle.xml.specs.Truth.{bool-by, and-left, and-right, mem-any}
 use Rattle.keys.specs.Version.{_▸_, Label, nameIn, before, called, isKeyValue, isOneValue, runIn, valueIn, label}
 use Rattle.keys.specs.Tree.{Content, inner, front, contents}
 use Rattle.keys.specs.Legal.{KeyChildren, Kind, Lawful}
-use Rattle.archive.specs.Times.{Times, sameTimes, writeTimes}
-use Rattle.archive.specs.TimesLaws.{times-is}
+use Rattle.timestamp.specs.Times.{Times, sameTimes, writeTimes}
+use Rattle.timestamp.specs.TimesLaws.{times-is}
 use Rattle.archive.specs.Archive.{Archive, wrap, branches, holding, stamped}
 use Rattle.archive.specs.Lawful.{InnerEntry, FrontEntry, KeyEntry, LawfulArchive}
 use Rattle.archive.specs.Walk.{firstLabel, precedes}

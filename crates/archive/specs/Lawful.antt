@@ -15,7 +15,7 @@ use Rattle.keys.specs.KeyList.{Path, KeyList}
 use Rattle.keys.specs.Version.{Label}
 use Rattle.keys.specs.Tree.{Content, inner, front, contents}
 use Rattle.keys.specs.Legal.{Lawful, InnerContent, FrontContent, Sole}
-use Rattle.archive.specs.Times.{always}
+use Rattle.timestamp.specs.Times.{always}
 use Rattle.archive.specs.Archive.{Archive}
 
 abbrev pub InnerEntry : Groups Content → Type 0

@@ -23,7 +23,7 @@ use Rattle.keys.specs.Version.{_▸_, Label, nameIn}
 use Rattle.keys.specs.Address.{valuesIn}
 use Rattle.keys.specs.Tree.{Content, front, contents, content-self}
 use Rattle.keys.specs.Legal.{Kind, KeyChildren, Lawful, InnerContent, FrontContent, KeyContent, LawfulVersion, Sole, LegalTree}
-use Rattle.archive.specs.Times.{always}
+use Rattle.timestamp.specs.Times.{always}
 use Rattle.archive.specs.Archive.{Archive}
 use Rattle.archive.specs.Lawful.{InnerEntry, FrontEntry, KeyEntry, LawfulArchive, Rooted, LegalArchive}
 use Rattle.archive.specs.LawfulLaws.{children-both, children-one, root-same}

@@ -28,8 +28,8 @@ use Rattle.keys.specs.Version.{Label, parsed, version}
 use Rattle.keys.specs.Tree.{Content, contents, keyed, forestOf}
 use Rattle.keys.specs.Legal.{LegalVersion, LegalTree}
 use Rattle.xml.specs.Truth.{and-left, and-right, and-both}
-use Rattle.archive.specs.TimesLaws.{last-always}
-use Rattle.archive.specs.Times.{always, writeTimes, lastNumber}
+use Rattle.timestamp.specs.TimesLaws.{last-always}
+use Rattle.timestamp.specs.Times.{always, writeTimes, lastNumber}
 use Rattle.keys.specs.ResultLaws.{refused-ok, ok-inj, bind-inv, passed, refusedAs-inv}
 use Rattle.archive.specs.Lawful.{LegalArchive}
 use Rattle.archive.specs.LawfulMerge.{archive-legal-tree}

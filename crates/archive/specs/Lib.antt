@@ -1,12 +1,12 @@
-pub mod Times
 pub mod Archive
 pub mod Calls
 pub mod Station
 pub mod Shelf
 pub mod Walk
 pub mod Lawful
-pub mod TimesLaws
 pub mod SetLaws
+pub mod ListedLaws
+pub mod LegalTexts
 pub mod CallLaws
 pub mod LawfulLaws
 pub mod LawfulMerge
@@ -33,4 +33,5 @@ pub mod LegalLaws
 pub mod Adequate
 pub mod WalkRead
 pub mod WalkLaws
+pub mod Sizes
 pub mod Standing

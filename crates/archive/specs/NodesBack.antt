@@ -17,7 +17,7 @@ use Rattle.xml.specs.Truth.{bool-by}
 use Rattle.keys.specs.Version.{_▸_, nameIn}
 use Rattle.keys.specs.Tree.{Content, inner, front, sameContent, contents, heldBy}
 use Rattle.keys.specs.Legal.{Kind, Lawful}
-use Rattle.archive.specs.Times.{Times, sameTimes, writeTimes, always}
+use Rattle.timestamp.specs.Times.{Times, sameTimes, writeTimes, always}
 use Rattle.archive.specs.Archive.{Archive, wrap, branches, holding, stamped, archiveForest}
 use Rattle.archive.specs.Lawful.{InnerEntry, FrontEntry, LawfulArchive}
 use Rattle.archive.specs.StampedLabels.{held-inner}

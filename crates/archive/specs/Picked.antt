@@ -20,8 +20,8 @@ use Rattle.keys.specs.Version.{_▸_, nameIn}
 use Rattle.keys.specs.Tree.{Content, inner, front, contents, heldBy, forestOf}
 use Rattle.keys.specs.Legal.{untimed, Kind, Lawful}
 use Rattle.xml.specs.Complete.{join-end}
-use Rattle.archive.specs.Times.{Times, sameTimes, always, writeTimes, belongs}
-use Rattle.archive.specs.TimesLaws.{times-not, belongs-times}
+use Rattle.timestamp.specs.Times.{Times, sameTimes, always, writeTimes, belongs}
+use Rattle.timestamp.specs.TimesLaws.{times-not, belongs-times}
 use Rattle.archive.specs.Archive.{Archive, wrap, branches, holding, stamped, archiveForest, pick}
 use Rattle.archive.specs.Lawful.{InnerEntry, FrontEntry, LawfulArchive, LegalArchive}
 use Rattle.archive.specs.StampedLabels.{held-inner}

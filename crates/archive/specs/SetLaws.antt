@@ -12,8 +12,8 @@ use Rattle.model.specs.Masks.{clash, is-true, true-is}
 use Rattle.xml.specs.Bytes.{Bytes}
 use Rattle.xml.specs.BytesLaws.{same-self}
 use Rattle.xml.specs.Truth.{and-left, and-right, and-both}
-use Rattle.archive.specs.Times.{Times, upFrom, belongs, writeTimes}
-use Rattle.archive.specs.TimesLaws.{belongs-times}
+use Rattle.timestamp.specs.Times.{Times, upFrom, belongs, writeTimes}
+use Rattle.timestamp.specs.TimesLaws.{belongs-times}
 use Rattle.archive.specs.Walk.{timesIn, canonical, ever, within, disjoint, earlier}
 
 -- ---- the set that a text gives

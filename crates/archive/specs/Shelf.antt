@@ -12,7 +12,7 @@ use Rattle.xml.specs.Forest.{Forest, end, write}
 use Rattle.keys.specs.KeyList.{KeyList, keyList}
 use Rattle.keys.specs.Version.{Label, version}
 use Rattle.keys.specs.Address.{address, holds}
-use Rattle.archive.specs.Times.{writeTimes}
+use Rattle.timestamp.specs.Times.{writeTimes}
 use Rattle.archive.specs.Archive.{archiveOf}
 use Rattle.archive.specs.Calls.{Answer, found, add, retrieve, history, stepBack, versionAt, calls-compute}
 

@@ -23,8 +23,8 @@ use Rattle.keys.specs.Address.{valuesIn}
 use Rattle.keys.specs.Tree.{Content, inner, contents}
 use Rattle.keys.specs.Legal.{KeyChildren, Kind, Lawful}
 use Rattle.archive.specs.AddContents.{wrap-other}
-use Rattle.archive.specs.Times.{Times, sameTimes, writeTimes}
-use Rattle.archive.specs.TimesLaws.{times-is, times-self, times-not}
+use Rattle.timestamp.specs.Times.{Times, sameTimes, writeTimes}
+use Rattle.timestamp.specs.TimesLaws.{times-is, times-self, times-not}
 use Rattle.archive.specs.Archive.{Archive, wrap, holding, stamped}
 use Rattle.archive.specs.Lawful.{InnerEntry, FrontEntry, KeyEntry, LawfulArchive}
 use Rattle.archive.specs.Walk.{timesIn, canonical, ever, within, frontLegal, isSole, firstLabel, precedes, siblingsLegal}

@@ -23,8 +23,8 @@ use Rattle.keys.specs.Version.{_▸_, Label, nameIn, called, isKeyValue, isOneV
 use Rattle.keys.specs.Address.{valuesIn}
 use Rattle.keys.specs.Tree.{Content, inner, front, sameContent, contents}
 use Rattle.keys.specs.Legal.{KeyChildren, Kind, Lawful}
-use Rattle.archive.specs.Times.{Times, sameTimes, writeTimes}
-use Rattle.archive.specs.TimesLaws.{times-self}
+use Rattle.timestamp.specs.Times.{Times, sameTimes, writeTimes}
+use Rattle.timestamp.specs.TimesLaws.{times-self}
 use Rattle.archive.specs.Archive.{Archive, wrap, holding, stamped}
 use Rattle.archive.specs.Lawful.{InnerEntry, FrontEntry, KeyEntry, LawfulArchive}
 

@@ -10,7 +10,7 @@ use lib.ListN.{length, take, length-append}
 use Rattle.model.specs.Gather.{All}
 use Rattle.xml.specs.Bytes.{Bytes, bytes, joinBy}
 use Rattle.xml.specs.Truth.{bool-by, and-left, and-right}
-use Rattle.archive.specs.Times.{Times, extend, runs, decimal, writeRun, writeTimes, times-compute}
+use Rattle.timestamp.specs.Times.{Times, extend, runs, decimal, writeRun, writeTimes, times-compute}
 
 -- ---- a smaller number has no more digits: one computed test of neighbours up to 999
 chain : (ℕ → ℕ) → ℕ → ℕ → Bool

@@ -18,8 +18,8 @@ use Rattle.keys.specs.Version.{_▸_, Label, called, isOneValue, nameIn}
 use Rattle.keys.specs.Tree.{Content, contents}
 use Rattle.keys.specs.Legal.{Kind, Lawful}
 use Rattle.archive.specs.AddContents.{wrap-other}
-use Rattle.archive.specs.Times.{Times, sameTimes, writeTimes}
-use Rattle.archive.specs.TimesLaws.{times-is, times-self, times-not}
+use Rattle.timestamp.specs.Times.{Times, sameTimes, writeTimes}
+use Rattle.timestamp.specs.TimesLaws.{times-is, times-self, times-not}
 use Rattle.archive.specs.Archive.{Archive, wrap, holding, stamped}
 use Rattle.archive.specs.Lawful.{InnerEntry, FrontEntry, LawfulArchive}
 use Rattle.archive.specs.Walk.{timesIn, ever, within, frontLegal, isSole, firstLabel, precedes, siblingsLegal}

@@ -18,7 +18,7 @@ use Rattle.keys.specs.KeyList.{Path, KeyList, keyList, listed, above, keyNamesA
 use Rattle.keys.specs.Version.{_▸_, Label, label, called, isOneValue, sameLabel, before, tooLarge, parsed, version}
 use Rattle.keys.specs.Address.{address}
 use Rattle.keys.specs.Legal.{untimed}
-use Rattle.archive.specs.Times.{Times, sameTimes, onlyAfter, always, upFrom, belongs, writeTimes, lastNumber}
+use Rattle.timestamp.specs.Times.{Times, sameTimes, onlyAfter, always, upFrom, belongs, writeTimes, lastNumber}
 use Rattle.archive.specs.Archive.{pick, lastVersion}
 use Rattle.archive.specs.Calls.{Answer, answer, room, atMost, storable, give, calls-compute}
 

@@ -27,7 +27,7 @@ use Rattle.keys.specs.Versions.{version-legal}
 use Rattle.keys.specs.Address.{address, holds, stepsOf, stepsKnown, writeAddress}
 use Rattle.keys.specs.Tree.{Content, contents, keyed}
 use Rattle.keys.specs.Legal.{LegalVersion}
-use Rattle.archive.specs.Times.{writeTimes}
+use Rattle.timestamp.specs.Times.{writeTimes}
 use Rattle.archive.specs.Archive.{Archive, archive, archiveForest, archiveOf, archiveText, pick, lastVersion}
 use Rattle.archive.specs.Calls.{Answer, answer, room, atMost, storable, give, notFull, versionAt, versionsTo, add, retrieve, history, stepBack}
 use Rattle.archive.specs.LegalLaws.{all-legal, legal-of, picked-of, last-of, archive-legal}

@@ -7,21 +7,20 @@ use mathlib.Core.List.{List, [], _∷_, _++_, map, append-assoc, append-nil}
 use borrow.Author.Tests.{eqb-true, eqb-false, leb-true, eq-eqb, ne-eqb, le-leb}
 use lib.Dec.{eqb, leb}
 use lib.ListN.{length, getD, replicate}
-use Rattle.model.specs.Masks.{clash}
 use Rattle.xml.specs.Bytes.{Bytes, bytes, any, all, split, joinBy, among, isDigit, isTimes, within, bytes-compute}
 use Rattle.xml.specs.BytesLaws.{sameBy-is, sameBy-self}
 use Rattle.xml.specs.SplitLaws.{Free, free-append, free-all, split-free, split-alone, split-sep}
-use Rattle.xml.specs.Truth.{bool-by, not-so, and-left, and-right, and-both, or-both, or-first, or-second}
-use Rattle.archive.specs.Times.{Times, sameTimes, always, upFrom, extend, runs, decimal, writeRun, writeTimes, number, runHolds, belongs, lastNumber, times-compute}
+use Rattle.xml.specs.Truth.{clash, bool-by, not-so, and-left, and-right, and-both, or-both, or-first, or-second}
+use Rattle.timestamp.specs.Times.{Times, sameTimes, always, upFrom, extend, runs, decimal, writeRun, writeTimes, number, runHolds, belongs, lastNumber, times-compute}
 
 -- ---- equal sets
-beq-is : (a b : Bool) → Bool·beq a b ≡ true → a ≡ b
+pub beq-is : (a b : Bool) → Bool·beq a b ≡ true → a ≡ b
 beq-is true true e = refl
 beq-is true false e = sym e
 beq-is false true e = e
 beq-is false false e = refl
 
-beq-self : (a : Bool) → Bool·beq a a ≡ true
+pub beq-self : (a : Bool) → Bool·beq a a ≡ true
 beq-self true = refl
 beq-self false = refl
 
@@ -37,15 +36,15 @@ pub times-not : (t u : Times) → (t ≡ u → ⊥) → sameTimes t u ≡ false
 times-not t u h = not-so (sameTimes t u) (λ e. h (times-is t u e))
 
 -- ---- tests
-bool-eq : (a b : Bool) → (a ≡ true → b ≡ true) → (b ≡ true → a ≡ true) → a ≡ b
+pub bool-eq : (a b : Bool) → (a ≡ true → b ≡ true) → (b ≡ true → a ≡ true) → a ≡ b
 bool-eq true b f g = sym (f refl)
-bool-eq false b f g = sym (not-so b (λ e. clash (g e) refl))
+bool-eq false b f g = sym (not-so b (λ e. clash (sym (g e))))
 
-or-by : {G : Type 0} (a b : Bool) → (a || b) ≡ true → (a ≡ true → G) → (b ≡ true → G) → G
+pub or-by : {G : Type 0} (a b : Bool) → (a || b) ≡ true → (a ≡ true → G) → (b ≡ true → G) → G
 or-by true b e f g = f refl
 or-by false b e f g = g e
 
-same-or : {G : Type 0} (i j : ℕ) → (i ≡ j → G) → ((i ≡ j → ⊥) → G) → G
+pub same-or : {G : Type 0} (i j : ℕ) → (i ≡ j → G) → ((i ≡ j → ⊥) → G) → G
 same-or {G} i j f g = bool-by (λ _. G) (eqb i j) (λ e. f (eqb-true i j e)) (λ e. g (eqb-false i j e))
 
 -- ---- decimals: one computed test over the numbers 1 to 999
@@ -87,14 +86,14 @@ module _ (n : ℕ) (l : 1 ≤ n) (u : n ≤ 999) where
   no-dash = free-all isDigit (eqb 45) (λ b t. ne-eqb 45 b (λ e. omega (arith, digit-from b t))) (decimal n) digits
 
 -- ---- one run
-inRun : ℕ → ℕ × ℕ → Bool
+unfoldable pub inRun : ℕ → ℕ × ℕ → Bool
 inRun i r = leb (r .0) i && leb i (r .1)
 
-in-run : (i a b : ℕ) → a ≤ i → i ≤ b → inRun i (a, b) ≡ true
+pub in-run : (i a b : ℕ) → a ≤ i → i ≤ b → inRun i (a, b) ≡ true
 unfolding inRun
 in-run i a b l u = and-both (leb a i) (leb i b) (le-leb a i l) (le-leb i b u)
 
-run-in : (i a b : ℕ) → inRun i (a, b) ≡ true → (a ≤ i) × (i ≤ b)
+pub run-in : (i a b : ℕ) → inRun i (a, b) ≡ true → (a ≤ i) × (i ≤ b)
 unfolding inRun
 run-in i a b t = (leb-true a i (and-left (leb a i) (leb i b) t), leb-true i b (and-right (leb a i) (leb i b) t))
 
@@ -124,7 +123,7 @@ free-run a b l m u =
     (λ _. free-append (eqb 44) (decimal a ++ bytes "-") (decimal b) (free-append (eqb 44) (decimal a) (bytes "-") (no-comma a l (omega arith)) (refl, tt)) (no-comma b (omega arith) u))
 
 -- ---- the runs of a set
-abbrev Within : ℕ → List (ℕ × ℕ) → Type 0
+abbrev pub Within : ℕ → List (ℕ × ℕ) → Type 0
 Within j [] = Unit {0}
 Within j (r ∷ rs) = (j ≤ r .0) × (r .0 ≤ r .1) × (r .1 ≤ 999) × Within j rs
 
@@ -140,13 +139,13 @@ within-extend j (r ∷ rs) u h =
     (λ _. (omega arith, omega arith, h .2, within-weaker j rs (h .3)))
     (λ _. (omega arith, omega arith, u, within-weaker j (r ∷ rs) h))
 
-runs-within : (j : ℕ) (t : Times) → j + length t ≤ 1000 → Within j (runs j t)
+pub runs-within : (j : ℕ) (t : Times) → j + length t ≤ 1000 → Within j (runs j t)
 unfolding runs
 runs-within j [] u = tt
 runs-within j (false ∷ t) u = within-weaker j (runs (suc j) t) (runs-within (suc j) t (omega arith))
 runs-within j (true ∷ t) u = within-extend j (runs (suc j) t) (omega arith) (runs-within (suc j) t (omega arith))
 
-below-none : (i j : ℕ) (rs : List (ℕ × ℕ)) → i < j → Within j rs → any (inRun i) rs ≡ false
+pub below-none : (i j : ℕ) (rs : List (ℕ × ℕ)) → i < j → Within j rs → any (inRun i) rs ≡ false
 unfolding any
 below-none i j [] l h = refl
 below-none i j (r ∷ rs) l h = or-both (inRun i r) (any (inRun i) rs)
@@ -167,7 +166,7 @@ extend-any i j (r ∷ rs) h =
     (λ _ e. rw (inRun-one i j) refl) refl
 
 -- a number is in the runs of a set just when it is in the set
-runs-are : (i j : ℕ) (t : Times) → j ≤ i → j + length t ≤ 1000 → any (inRun i) (runs j t) ≡ getD t (i - j) false
+pub runs-are : (i j : ℕ) (t : Times) → j ≤ i → j + length t ≤ 1000 → any (inRun i) (runs j t) ≡ getD t (i - j) false
 unfolding runs any
 runs-are i j [] l u = refl
 runs-are i j (false ∷ t) l u = same-or i j
@@ -263,14 +262,17 @@ unfolding runs extend
 runs-always i zero = let z : i + 0 ≡ i = omega arith in rw z refl
 runs-always i (suc n) = let z : i + suc n ≡ suc i + n = omega arith in rw (z, runs-always (suc i) n) (rw (eq-eqb (suc i) (suc i) refl, extend) refl)
 
+-- their text is one run
+pub write-always : (n : ℕ) → writeTimes (always (suc n)) ≡ writeRun (1, suc n)
+unfolding writeTimes always joinBy
+write-always n = let z : 1 + n ≡ suc n = omega arith in ap (λ rs. joinBy (bytes ",") (map writeRun rs)) (runs-always 1 n ∙ ap (λ m. (1, m) ∷ []) z)
+
 last-good : all (λ n. eqb (lastNumber (writeRun (1, n))) n) (upFrom 1 999) ≡ true
 unfolding times-compute
 last-good = refl
 
 pub last-always : (n : ℕ) → 1 ≤ n → n ≤ 999 → lastNumber (writeTimes (always n)) ≡ n
-unfolding writeTimes always joinBy
 last-always zero l u = absurd (omega arith)
 last-always (suc n) l u =
-    let z : 1 + n ≡ suc n = omega arith in
-    ap (λ rs. lastNumber (joinBy (bytes ",") (map writeRun rs))) (runs-always 1 n ∙ ap (λ m. (1, m) ∷ []) z)
+    ap lastNumber (write-always n)
     ∙ eqb-true (lastNumber (writeRun (1, suc n))) (suc n) (all-from (λ n. eqb (lastNumber (writeRun (1, n))) n) 1 999 (suc n) last-good l (omega arith))

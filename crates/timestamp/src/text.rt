@@ -1,0 +1,270 @@
+// A timestamp's text read: whether a number belongs to it, and the set that it is the text of.
+use crate::Timestamp;
+ghost use mathlib.Core.Path.{_≡_};
+ghost use Prim.Native.Nat.{_+_, _-_, _*_, _<_, _≤_, min};
+ghost use lib.ListN.{getD};
+ghost use Rattle.timestamp.specs.Times.{belongs as isIn};
+ghost use Rattle.timestamp.specs.Belongs.{dashed, stepped, holds};
+ghost use Rattle.timestamp.specs.Parse.{parsed, outcome};
+ghost use Rattle.timestamp.specs.Reading.{more, opens, closes, startAt, view, bad, digitIn, dashIn, closeIn, stepIn};
+ghost use Rattle.xml.specs.Bytes.{isDigit};
+
+// What is read of a run: the dashes in it (2 for more), the number before the last of them, and the number so far (1000 for more).
+pub struct Span {
+    pub dashes: usize,
+    pub lo: usize,
+    pub n: usize,
+}
+
+// The byte at a place; past the end a comma, as the end of the text ends its last run.
+fn byte_at(text: &[u8], at: usize) -> u8
+    ensures { λ r. ⌜ r ≡ getD (now (text .entry)) at 44 ⌝ }
+{
+    if at < text.len() { text[at] } else { b',' }
+}
+
+// The digit that a byte stands for; 0 for a byte before `0`.
+fn digit(b: u8) -> usize
+    ensures { λ r. ⌜ (r ≡ b - 48) × (r < 256) ⌝ }
+{
+    if b < 48 { 0 } else { (b - 48) as usize }
+}
+
+// The number n with one digit more.
+fn grow(n: usize, b: u8) -> usize
+    requires { ⌜ n ≤ 1000 ⌝ }
+    ensures { λ r. ⌜ r ≡ min 1000 (10 * n + (b - 48)) ⌝ }
+{
+    let m = 10 * n + digit(b);
+    if m < 1000 { m } else { 1000 }
+}
+
+// One dash more.
+fn dash(k: usize) -> usize
+    ensures { λ r. ⌜ r ≡ dashed k ⌝ }
+{
+    if k == 0 { 1 } else { 2 }
+}
+
+impl Span {
+    fn step(self, b: u8) -> Self
+        requires { ⌜ self .n ≤ 1000 ⌝ }
+        ensures { λ r. ⌜ (r ≡ stepped self b) × (r .n ≤ 1000) ⌝ }
+    {
+        if b == b'-' {
+            Span {
+                dashes: dash(self.dashes),
+                lo: self.n,
+                n: 0,
+            }
+        } else {
+            Span {
+                dashes: self.dashes,
+                lo: self.lo,
+                n: grow(self.n, b),
+            }
+        }
+    }
+
+    // Whether v is in the run.
+    fn holds(self, v: usize) -> bool
+        ensures { λ r. ⌜ r ≡ holds self v ⌝ }
+    {
+        if self.dashes == 0 {
+            return v == self.n;
+        }
+        if self.dashes == 1 {
+            if self.lo <= v {
+                return v <= self.n;
+            }
+        }
+        false
+    }
+}
+
+// Whether v is in the set with this text: a turn of the loop for each run, in which the bytes of its numbers are read.
+pub fn belongs(text: &[u8], v: usize) -> bool
+    requires { ⌜ v < 1000 ⌝ }
+    ensures { λ r. ⌜ r ≡ isIn v (now (text .entry)) ⌝ }
+{
+    let mut at = 0;
+    loop {
+        let mut run = Span {
+            dashes: 0,
+            lo: 0,
+            n: 0,
+        };
+        while byte_at(text, at) != b',' {
+            run = run.step(byte_at(text, at));
+            at += 1;
+        }
+        if run.holds(v) {
+            break true;
+        }
+        if text.len() <= at {
+            break false;
+        }
+        at += 1;
+    }
+}
+
+// What is read of a text: the set so far, the bound p that the next run must pass, the run's start or 0, and the number so far.
+pub struct Reader {
+    pub ok: bool,
+    pub p: usize,
+    pub lo: usize,
+    pub n: usize,
+    pub set: Timestamp,
+}
+
+// A text's set, where it is the text of one.
+pub struct Parsed {
+    pub ok: bool,
+    pub stamp: Timestamp,
+}
+
+fn is_digit(b: u8) -> bool
+    ensures { λ r. ⌜ r ≡ isDigit b ⌝ }
+{
+    if 48 <= b { b <= 57 } else { false }
+}
+
+// The number stays below 1000 with this digit after it, and has no leading zero.
+fn may_follow(n: usize, b: u8) -> bool
+    ensures { λ r. ⌜ r ≡ more n b ⌝ }
+{
+    if n < 100 {
+        if 0 < n { true } else { 48 < b }
+    } else {
+        false
+    }
+}
+
+fn may_open(p: usize, lo: usize, n: usize) -> bool
+    ensures { λ r. ⌜ r ≡ opens p lo n ⌝ }
+{
+    if lo == 0 { p < n } else { false }
+}
+
+fn may_close(p: usize, lo: usize, n: usize) -> bool
+    ensures { λ r. ⌜ r ≡ closes p lo n ⌝ }
+{
+    if lo == 0 { p < n } else { lo < n }
+}
+
+fn start_of(lo: usize, n: usize) -> usize
+    ensures { λ r. ⌜ r ≡ startAt lo n ⌝ }
+{
+    if lo == 0 { n } else { lo }
+}
+
+impl Reader {
+    fn fail(self) -> Self
+        requires { ⌜ self .n < 1000 ⌝ }
+        ensures { λ r. ⌜ (view r ≡ bad) × (r .n < 1000) ⌝ }
+    {
+        let set = self.set;
+        Reader {
+            ok: false,
+            p: self.p,
+            lo: self.lo,
+            n: self.n,
+            set: set,
+        }
+    }
+
+    fn digit(self, b: u8) -> Self
+        requires { ⌜ (self .n < 1000) × (48 ≤ b) × (b ≤ 57) ⌝ }
+        ensures { λ r. ⌜ (view r ≡ digitIn (view self) b) × (r .n < 1000) ⌝ }
+    {
+        let set = self.set;
+        let n = self.n;
+        if may_follow(n, b) {
+            Reader {
+                ok: self.ok,
+                p: self.p,
+                lo: self.lo,
+                n: n * 10 + ((b - 48) as usize),
+                set: set,
+            }
+        } else {
+            self.fail()
+        }
+    }
+
+    fn dash(self) -> Self
+        requires { ⌜ self .n < 1000 ⌝ }
+        ensures { λ r. ⌜ (view r ≡ dashIn (view self)) × (r .n < 1000) ⌝ }
+    {
+        let set = self.set;
+        if may_open(self.p, self.lo, self.n) {
+            Reader {
+                ok: self.ok,
+                p: self.p,
+                lo: self.n,
+                n: 0,
+                set: set,
+            }
+        } else {
+            self.fail()
+        }
+    }
+
+    fn close(self) -> Self
+        requires { ⌜ self .n < 1000 ⌝ }
+        ensures { λ r. ⌜ (view r ≡ closeIn (view self)) × (r .n < 1000) ⌝ }
+    {
+        let set = self.set;
+        let n = self.n;
+        if may_close(self.p, self.lo, n) {
+            Reader {
+                ok: self.ok,
+                p: n + 1,
+                lo: 0,
+                n: 0,
+                set: set.union(Timestamp::range(start_of(self.lo, n), n)),
+            }
+        } else {
+            self.fail()
+        }
+    }
+
+    fn step(self, b: u8) -> Self
+        requires { ⌜ self .n < 1000 ⌝ }
+        ensures { λ r. ⌜ (view r ≡ stepIn (view self) b) × (r .n < 1000) ⌝ }
+    {
+        if is_digit(b) {
+            self.digit(b)
+        } else if b == b'-' {
+            self.dash()
+        } else if b == b',' {
+            self.close()
+        } else {
+            self.fail()
+        }
+    }
+}
+
+// The set with this text; refused where it is the text of no set of numbers 1 to 999, or of the empty one.
+pub fn parse(text: &[u8]) -> Parsed
+    ensures { λ r. ⌜ outcome r ≡ parsed (now (text .entry)) ⌝ }
+{
+    let mut x = Reader {
+        ok: true,
+        p: 0,
+        lo: 0,
+        n: 0,
+        set: Timestamp::empty(),
+    };
+    let mut at = 0;
+    while at < text.len() {
+        x = x.step(text[at]);
+        at += 1;
+    }
+    let y = x.close();
+    let stamp = y.set;
+    Parsed {
+        ok: y.ok,
+        stamp: stamp,
+    }
+}

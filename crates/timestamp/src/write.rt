@@ -1,0 +1,96 @@
+// Writing a timestamp's text. A writer is handed the whole output and the place to write at, which may lie past the output's end: it
+// writes what fits, and answers the place after all of it.
+use crate::Timestamp;
+ghost use mathlib.Core.Path.{_≡_};
+ghost use mathlib.Core.List.{[], _∷_};
+ghost use Prim.Native.Nat.{_+_, _-_, _^_, _<_, _≤_, min};
+ghost use Rattle.xml.specs.Over.{Wrote};
+ghost use Rattle.timestamp.specs.Set.{setOf};
+ghost use Rattle.timestamp.specs.Times.{decimal, writeRun};
+ghost use Rattle.timestamp.specs.Listed.{textOf};
+ghost use Rattle.timestamp.specs.Write.{part};
+
+// Writes one byte.
+fn put(out: &mut [u8], at: usize, b: u8) -> usize
+    requires { ⌜ at < 2 ^ 63 ⌝ }
+    ensures { λ r. ⌜ Wrote (now (out .entry)) at (b ∷ []) r (now (out .exit)) ⌝ }
+{
+    if at < out.len() {
+        out[at] = b;
+    }
+    at + 1
+}
+
+fn put_digit(out: &mut [u8], at: usize, d: usize) -> usize
+    requires { ⌜ (d < 10) × (at < 2 ^ 63) ⌝ }
+    ensures { λ r. ⌜ Wrote (now (out .entry)) at ((48 + d) ∷ []) r (now (out .exit)) ⌝ }
+{
+    put(out, at, 48 + (d as u8))
+}
+
+// Writes a number in decimal.
+fn put_number(out: &mut [u8], at: usize, n: usize) -> usize
+    requires { ⌜ (1 ≤ n) × (n < 1000) × (at < 2 ^ 63 - 8) ⌝ }
+    ensures { λ r. ⌜ Wrote (now (out .entry)) at (decimal n) r (now (out .exit)) ⌝ }
+{
+    if n < 10 {
+        return put_digit(out, at, n);
+    }
+    if n < 100 {
+        let i = put_digit(out, at, n / 10);
+        return put_digit(out, i, n % 10);
+    }
+    let i = put_digit(out, at, n / 100);
+    let j = put_digit(out, i, n / 10 % 10);
+    put_digit(out, j, n % 10)
+}
+
+// Writes a run, `5` or `1-3`.
+fn put_run(out: &mut [u8], at: usize, lo: usize, hi: usize) -> usize
+    requires { ⌜ (1 ≤ lo) × (lo ≤ hi) × (hi < 1000) × (at < 2 ^ 63 - 16) ⌝ }
+    ensures { λ r. ⌜ Wrote (now (out .entry)) at (writeRun (lo, hi)) r (now (out .exit)) ⌝ }
+{
+    let i = put_number(out, at, lo);
+    if lo == hi {
+        return i;
+    }
+    let j = put(out, i, b'-');
+    put_number(out, j, hi)
+}
+
+// Writes a run, after a comma where one was written before it.
+fn put_part(out: &mut [u8], at: usize, later: bool, lo: usize, hi: usize) -> usize
+    requires { ⌜ (1 ≤ lo) × (lo ≤ hi) × (hi < 1000) × (at < 2 ^ 62) ⌝ }
+    ensures { λ r. ⌜ Wrote (now (out .entry)) at (part later (lo, hi)) r (now (out .exit)) ⌝ }
+{
+    if later {
+        let i = put(out, at, b',');
+        put_run(out, i, lo, hi)
+    } else {
+        put_run(out, at, lo, hi)
+    }
+}
+
+fn least(a: usize, b: usize) -> usize
+    ensures { λ r. ⌜ r ≡ min a b ⌝ }
+{
+    if a < b { a } else { b }
+}
+
+impl Timestamp {
+    // Writes the set's text, from run to run.
+    pub fn put_text(self, out: &mut [u8], at: usize) -> usize
+        requires { ⌜ at < 2 ^ 61 ⌝ }
+        ensures { λ r. ⌜ Wrote (now (out .entry)) at (textOf (setOf (self .words))) r (now (out .exit)) ⌝ }
+    {
+        let gaps = self.complement();
+        let mut to = at;
+        let mut lo = self.next(1);
+        while lo < 1000 {
+            let end = least(gaps.next(lo), 1000);
+            to = put_part(out, to, at < to, lo, end - 1);
+            lo = self.next(end);
+        }
+        to
+    }
+}
