@@ -1,0 +1,5 @@
+pub mod Table
+pub mod Tags
+pub mod Steps
+pub mod Turns
+pub mod Closes

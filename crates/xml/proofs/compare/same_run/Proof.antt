@@ -1,0 +1,73 @@
+-- `xml::compare::same_run` meets its contract: the runs mean the same where what is left of them does. Assumes nothing.
+use Prim.Native.Nat.{_-_, _≤_}
+use native.Mathlib.Omega.{arith}
+use mathlib.Core.Path.{_≡_, refl, sym, _∙_, subst}
+use lib.Seq.{slice}
+use Rattle.xml.specs.Bytes.{same}
+use Rattle.xml.specs.Read.{unescape}
+use Rattle.xml.specs.SignLaws.{Meant, sign-means}
+use Rattle.xml.specs.CompareLaws.{run-more, run-other, run-left, run-ends}
+use Rattle.xml.proofs.compare.same_run.Statement.{statement}
+use Rattle.xml.proofs.compare.same_run.Tie as tie
+
+abbrev Inv-loop : tie.InvT-loop
+Inv-loop src1 a1 e1 src2 a2 e2 i₀ j₀ i j = (i ≤ e1) × (j ≤ e2) × (same (unescape 0 (slice a1 e1 src1)) (unescape 0 (slice a2 e2 src2)) ≡ same (unescape 0 (slice i e1 src1)) (unescape 0 (slice j e2 src2)))
+
+abbrev μ-loop : tie.MeasureT-loop
+μ-loop src1 a1 e1 src2 a2 e2 i₀ j₀ i j = e1 - i
+
+-- what each run means at the place of this turn
+left : (c : tie.After-sign-at Inv-loop μ-loop) → Meant (c .before .before .before .before .before .before .args .src1 .now) (c .before .before .before .loop .i) (c .before .before .before .before .before .before .args .e1) (c .sign-at .result)
+left c =
+    subst (λ g. Meant (c .before .before .before .before .before .before .args .src1 .now) (c .before .before .before .loop .i) (c .before .before .before .before .before .before .args .e1) g) (sym (c .sign-at .ensures))
+    (sign-means (c .before .before .before .before .before .before .args .src1 .now) (c .before .before .before .loop .i) (c .before .before .before .before .before .before .args .e1) (c .before .before .loop-test .taken) (c .before .before .before .before .before .before .pre .in₁))
+
+right : (c : tie.After-sign-at2 Inv-loop μ-loop) → Meant (c .before .before .before .before .before .before .before .args .src2 .now) (c .before .before .before .before .loop .j) (c .before .before .before .before .before .before .before .args .e2) (c .sign-at2 .result)
+right c =
+    subst (λ g. Meant (c .before .before .before .before .before .before .before .args .src2 .now) (c .before .before .before .before .loop .j) (c .before .before .before .before .before .before .before .args .e2) g) (sym (c .sign-at2 .ensures))
+    (sign-means (c .before .before .before .before .before .before .before .args .src2 .now) (c .before .before .before .before .loop .j) (c .before .before .before .before .before .before .before .args .e2) (omega arith) (c .before .before .before .before .before .before .before .pre .in₂))
+
+loop-holds : tie.Need-loop-holds Inv-loop μ-loop
+loop-holds c = (omega arith, omega arith, refl)
+
+returns : tie.Need-returns Inv-loop μ-loop
+returns c =
+    let a = c .before .before .before .before .before .args in
+    let over : c .before .before .loop .j ≡ a .e2 = omega arith in
+    sym (c .before .before .loop .inv .2 ∙ rw over (run-left (a .src2 .now) (a .e2) (sign-means (a .src1 .now) (c .before .before .loop .i) (a .e1) (c .before .loop-test .taken) (c .before .before .before .before .before .pre .in₁))))
+
+sign-at-requires : tie.Need-sign-at-requires Inv-loop μ-loop
+sign-at-requires c κs = (c .before .loop-test .taken, c .before .before .before .before .before .pre .in₁)
+
+sign-at-requires-2 : tie.Need-sign-at-requires-2 Inv-loop μ-loop
+sign-at-requires-2 c κs = (omega arith, c .before .before .before .before .before .before .pre .in₂)
+
+returns-2 : tie.Need-returns-2 Inv-loop μ-loop
+returns-2 c = sym (c .before .before .before .before .before .before .before .loop .inv .2 ∙ run-other (left (c .before .before .before .before)) (right (c .before .before .before)) (c .if2 .taken))
+
+loop-less : tie.Need-loop-less Inv-loop μ-loop
+loop-less c = omega (arith, left (c .before .before .before .before) .forward, left (c .before .before .before .before) .inside)
+
+loop-again : tie.Need-loop-again Inv-loop μ-loop
+loop-again c = (left (c .before .before .before .before) .inside, right (c .before .before .before) .inside, c .before .before .before .before .before .before .before .loop .inv .2 ∙ run-more (left (c .before .before .before .before)) (right (c .before .before .before)) (c .if2 .left))
+
+returns-3 : tie.Need-returns-3 Inv-loop μ-loop
+returns-3 c =
+    let a = c .before .before .before .before .args in
+    let done : c .before .loop .i ≡ a .e1 = omega arith in
+    run-ends (a .src1 .now) (a .e1) (a .src2 .now) (c .before .loop .j) (a .e2) (c .before .loop .inv .1) (c .before .before .before .before .pre .in₂) ∙ sym (rw done at (c .before .loop .inv .2))
+
+pub same-run-spec : {M : Type 1} → statement M
+same-run-spec =
+    tie.close
+    (tie.spec
+    Inv-loop
+    μ-loop
+    loop-holds
+    returns
+    sign-at-requires
+    sign-at-requires-2
+    returns-2
+    loop-less
+    loop-again
+    returns-3)

@@ -1,0 +1,114 @@
+-- The classes of bytes as numbers, and what a number says of a byte.
+use Prim.Native.Nat.{ℕ, _/_, _<_, _≤_}
+use Prim.Native.Char.{code}
+use native.Mathlib.Omega.{arith}
+use mathlib.Core.Path.{_≡_, refl, _∙_, ap}
+use mathlib.Core.Bool.{true, false}
+use lib.Dec.{eqb, leb}
+use borrow.Author.Tests.{eq-eqb, ne-eqb, le-leb, lt-leb}
+use Rattle.xml.specs.Bytes.{Class, illegal, white, start, other, markup, plain, classOf, isWhite, isLegal, isStart, isNameByte, bytes-compute}
+
+-- "illegal, white space, name start, other name byte, markup (`<`, `&`), other text"
+unfoldable pub classNumber : Class → ℕ
+classNumber illegal = 0
+classNumber white = 1
+classNumber start = 2
+classNumber other = 3
+classNumber markup = 4
+classNumber plain = 5
+
+white-class : (c : Class) → elim c [ illegal ↦ false | white ↦ true | start ↦ false | other ↦ false | markup ↦ false | plain ↦ false ] ≡ eqb (classNumber c) 1
+unfolding classNumber
+white-class illegal = refl
+white-class white = refl
+white-class start = refl
+white-class other = refl
+white-class markup = refl
+white-class plain = refl
+
+legal-class : (c : Class) → elim c [ illegal ↦ false | white ↦ true | start ↦ true | other ↦ true | markup ↦ true | plain ↦ true ] ≡ leb 1 (classNumber c)
+unfolding classNumber
+legal-class illegal = refl
+legal-class white = refl
+legal-class start = refl
+legal-class other = refl
+legal-class markup = refl
+legal-class plain = refl
+
+start-class : (c : Class) → elim c [ illegal ↦ false | white ↦ false | start ↦ true | other ↦ false | markup ↦ false | plain ↦ false ] ≡ eqb (classNumber c) 2
+unfolding classNumber
+start-class illegal = refl
+start-class white = refl
+start-class start = refl
+start-class other = refl
+start-class markup = refl
+start-class plain = refl
+
+name-class : (c : Class) → elim c [ illegal ↦ false | white ↦ false | start ↦ true | other ↦ true | markup ↦ false | plain ↦ false ] ≡ eqb (classNumber c / 2) 1
+unfolding classNumber
+name-class illegal = refl
+name-class white = refl
+name-class start = refl
+name-class other = refl
+name-class markup = refl
+name-class plain = refl
+
+pub white-number : (b : ℕ) → isWhite b ≡ eqb (classNumber (classOf b)) 1
+unfolding isWhite
+white-number b = white-class (classOf b)
+
+pub legal-number : (b : ℕ) → isLegal b ≡ leb 1 (classNumber (classOf b))
+unfolding isLegal
+legal-number b = legal-class (classOf b)
+
+pub start-number : (b : ℕ) → isStart b ≡ eqb (classNumber (classOf b)) 2
+unfolding isStart
+start-number b = start-class (classOf b)
+
+-- 2 and 3 are the bytes of names
+pub name-number : (b : ℕ) → isNameByte b ≡ eqb (classNumber (classOf b) / 2) 1
+unfolding isNameByte
+name-number b = name-class (classOf b)
+
+-- n is the class of b
+module _ (b : ℕ) {n : ℕ} (is : n ≡ classNumber (classOf b)) where
+  pub white-yes : n ≡ 1 → isWhite b ≡ true
+  white-yes e = white-number b ∙ rw (← is) (eq-eqb n 1 e)
+
+  pub white-no : (n ≡ 1 → ⊥) → isWhite b ≡ false
+  white-no e = white-number b ∙ rw (← is) (ne-eqb n 1 e)
+
+  pub legal-yes : 1 ≤ n → isLegal b ≡ true
+  legal-yes e = legal-number b ∙ rw (← is) (le-leb 1 n e)
+
+  pub legal-no : n < 1 → isLegal b ≡ false
+  legal-no e = legal-number b ∙ rw (← is) (lt-leb 1 n e)
+
+  pub start-yes : n ≡ 2 → isStart b ≡ true
+  start-yes e = start-number b ∙ rw (← is) (eq-eqb n 2 e)
+
+  pub start-no : (n ≡ 2 → ⊥) → isStart b ≡ false
+  start-no e = start-number b ∙ rw (← is) (ne-eqb n 2 e)
+
+  pub name-yes : n / 2 ≡ 1 → isNameByte b ≡ true
+  name-yes e = name-number b ∙ rw (← is) (eq-eqb (n / 2) 1 e)
+
+  pub name-no : (n / 2 ≡ 1 → ⊥) → isNameByte b ≡ false
+  name-no e = name-number b ∙ rw (← is) (ne-eqb (n / 2) 1 e)
+
+  -- markup and other text have the classes from 4 on
+  pub not-lt : n < 4 → b ≡ code "<" → ⊥
+  unfolding bytes-compute classNumber
+  not-lt h e = let z : n ≡ 4 = is ∙ ap (λ (x : ℕ). classNumber (classOf x)) e in omega arith
+
+  pub not-amp : n < 4 → b ≡ code "&" → ⊥
+  unfolding bytes-compute classNumber
+  not-amp h e = let z : n ≡ 4 = is ∙ ap (λ (x : ℕ). classNumber (classOf x)) e in omega arith
+
+  pub not-bracket : n < 4 → b ≡ code "]" → ⊥
+  unfolding bytes-compute classNumber
+  not-bracket h e = let z : n ≡ 5 = is ∙ ap (λ (x : ℕ). classNumber (classOf x)) e in omega arith
+
+  pub not-greater : n < 4 → b ≡ code ">" → ⊥
+  unfolding bytes-compute classNumber
+  not-greater h e = let z : n ≡ 5 = is ∙ ap (λ (x : ℕ). classNumber (classOf x)) e in omega arith
