@@ -28,12 +28,12 @@ unfolding samePath
 samePath-self = sameBy-self same same-self
 
 -- ---- what continues a path
-continues-none : (c : Path) → continues c [] ≡ false
+pub continues-none : (c : Path) → continues c [] ≡ false
 unfolding continues
 continues-none [] = refl
 continues-none (n ∷ c) = refl
 
-continues-next : (c d : Path) (x : Bytes) → continues c (d ▸ x) ≡ true → (c ≡ d) ⊎ (continues c d ≡ true)
+pub continues-next : (c d : Path) (x : Bytes) → continues c (d ▸ x) ≡ true → (c ≡ d) ⊎ (continues c d ≡ true)
 unfolding continues
 continues-next [] [] x e = inl refl
 continues-next [] (m ∷ d) x e = inr refl
@@ -47,7 +47,7 @@ continues-next (n ∷ c) (m ∷ d) x e = go (continues-next c d x (and-right (sa
     go (inl p) = inl (ap₂ (λ a t. a ∷ t) (same-is n m s) p)
     go (inr p) = inr (rw s p)
 
-continues-one : (q : Path) (n : Bytes) → continues q (q ▸ n) ≡ true
+pub continues-one : (q : Path) (n : Bytes) → continues q (q ▸ n) ≡ true
 unfolding continues
 continues-one [] n = refl
 continues-one (m ∷ q) n = rw (same-self m) (continues-one q n)
@@ -74,12 +74,12 @@ paths-mem (k ∷ K) r m = go (λ n. paths-mem K r n) (List·Memᴰ·append-cases
     go ih (inl n) = (k, List·Memᴰ·head refl, n)
     go ih (inr n) = let t = ih n in (t .0, List·Memᴰ·tail (t .1), t .2)
 
-mem-paths : {K : KeyList} {k : Key} {r : Path} → List·Memᴰ k K → List·Memᴰ r (path k ∷ implied k) → List·Memᴰ r (paths K)
+pub mem-paths : {K : KeyList} {k : Key} {r : Path} → List·Memᴰ k K → List·Memᴰ r (path k ∷ implied k) → List·Memᴰ r (paths K)
 unfolding paths flatMap
 mem-paths {r = r} (List·Memᴰ·head {x = j} e) n = Memᴰ·append-left _ (subst (λ (z : Key). List·Memᴰ r (path z ∷ implied z)) e n)
 mem-paths (List·Memᴰ·tail {x = j} m) n = Memᴰ·append-right (path j ∷ implied j) (mem-paths m n)
 
-mem-implied : {K : KeyList} {k : Key} {r : Path} → List·Memᴰ k K → List·Memᴰ r (implied k) → List·Memᴰ r (flatMap implied K)
+pub mem-implied : {K : KeyList} {k : Key} {r : Path} → List·Memᴰ k K → List·Memᴰ r (implied k) → List·Memᴰ r (flatMap implied K)
 unfolding flatMap
 mem-implied {r = r} (List·Memᴰ·head {x = j} e) n = Memᴰ·append-left _ (subst (λ (z : Key). List·Memᴰ r (implied z)) e n)
 mem-implied (List·Memᴰ·tail {x = j} m) n = Memᴰ·append-right (implied j) (mem-implied m n)
@@ -90,42 +90,51 @@ pub record Rules (K : KeyList) : Type 0 where
   pub known : contextsKnown ([] ∷ []) K ≡ true
   pub once : distinct samePath (paths K) ≡ true
   pub free : all (λ p. not (any (λ c. samePath p c) (map (λ k. k .context) K))) (flatMap implied K) ≡ true
+  pub no-T : all (λ p. all (λ n. not (same n (bytes "T"))) p) (paths K) ≡ true
+  pub lines : leb (length K) 64 ≡ true
+  pub few : leb (length (paths K)) 128 ≡ true
+  pub short : all (λ p. leb (length p) 8) (paths K) ≡ true
+
+all-eight : (a b c d f g h i : Bool) → (a && b && c && d && f && g && h && i) ≡ true
+    → (a ≡ true) × (b ≡ true) × (c ≡ true) × (d ≡ true) × (f ≡ true) × (g ≡ true) × (h ≡ true) × (i ≡ true)
+all-eight true true true true true true true i e = (refl, refl, refl, refl, refl, refl, refl, e)
+all-eight true true true true true true false i e = absurd (clash e refl)
+all-eight true true true true true false h i e = absurd (clash e refl)
+all-eight true true true true false g h i e = absurd (clash e refl)
+all-eight true true true false f g h i e = absurd (clash e refl)
+all-eight true true false d f g h i e = absurd (clash e refl)
+all-eight true false c d f g h i e = absurd (clash e refl)
+all-eight false b c d f g h i e = absurd (clash e refl)
 
 pub rules : (K : KeyList) → rulesKept K ≡ true → Rules K
 unfolding rulesKept
 rules K e =
-    let a = and-left _ (all (λ p. leb (length p) 8) (paths K)) e in
-    let b = and-left _ (leb (length (paths K)) 128) a in
-    let c = and-left _ (leb (length K) 64) b in
-    let d = and-left _ (all (λ p. all (λ n. not (same n (bytes "T"))) p) (paths K)) c in
-    let f = and-left _ (all (λ p. not (any (λ c. samePath p c) (map (λ k. k .context) K))) (flatMap implied K)) d in
-    let g = and-left _ (distinct samePath (paths K)) f in
-    record {
-      first = and-left (firstBare K) _ g;
-      known = and-right (firstBare K) _ g;
-      once = and-right (firstBare K && contextsKnown ([] ∷ []) K) _ f;
-      free = and-right (firstBare K && contextsKnown ([] ∷ []) K && distinct samePath (paths K)) _ d;
-    }
+    let t =
+    all-eight (firstBare K) (contextsKnown ([] ∷ []) K) (distinct samePath (paths K))
+    (all (λ p. not (any (λ c. samePath p c) (map (λ k. k .context) K))) (flatMap implied K)) (all (λ p. all (λ n. not (same n (bytes "T"))) p) (paths K))
+    (leb (length K) 64) (leb (length (paths K)) 128) (all (λ p. leb (length p) 8) (paths K)) e
+    in
+    record { first = t .0; known = t .1; once = t .2; free = t .3; no-T = t .4; lines = t .5; few = t .6; short = t .7 }
 
 -- "No path is given twice": no path stands in two parts of the list of them
-once-head : (c : Path) (l : List Path) → distinct samePath (c ∷ l) ≡ true → List·Memᴰ c l → ⊥
+pub once-head : (c : Path) (l : List Path) → distinct samePath (c ∷ l) ≡ true → List·Memᴰ c l → ⊥
 unfolding distinct any
 once-head c l e m = clash (mem-any (samePath c) m (samePath-self c)) (not-true (any (samePath c) l) (and-left (not (any (samePath c) l)) _ e))
 
-once-tail : (c : Path) (l : List Path) → distinct samePath (c ∷ l) ≡ true → distinct samePath l ≡ true
+pub once-tail : (c : Path) (l : List Path) → distinct samePath (c ∷ l) ≡ true → distinct samePath l ≡ true
 unfolding distinct any
 once-tail c l e = and-right (not (any (samePath c) l)) _ e
 
-once-apart : {c : Path} {s : List Path} (t : List Path) → distinct samePath (s ++ t) ≡ true → List·Memᴰ c s → List·Memᴰ c t → ⊥
+pub once-apart : {c : Path} {s : List Path} (t : List Path) → distinct samePath (s ++ t) ≡ true → List·Memᴰ c s → List·Memᴰ c t → ⊥
 once-apart t e (List·Memᴰ·head {x = x} {xs = s} p) m = once-head x (s ++ t) e (Memᴰ·append-right s (Memᴰ·cast (sym p) m))
 once-apart t e (List·Memᴰ·tail {x = x} {xs = s} n) m = once-apart t (once-tail x (s ++ t) e) n m
 
-once-right : (s t : List Path) → distinct samePath (s ++ t) ≡ true → distinct samePath t ≡ true
+pub once-right : (s t : List Path) → distinct samePath (s ++ t) ≡ true → distinct samePath t ≡ true
 once-right [] t e = e
 once-right (x ∷ s) t e = once-right s t (once-tail x (s ++ t) e)
 
 -- so no line has an implied path
-line-implied : {K : KeyList} {k j : Key} {c : Path} → distinct samePath (paths K) ≡ true → List·Memᴰ k K → c ≡ path k → List·Memᴰ j K → List·Memᴰ c (implied j) → ⊥
+pub line-implied : {K : KeyList} {k j : Key} {c : Path} → distinct samePath (paths K) ≡ true → List·Memᴰ k K → c ≡ path k → List·Memᴰ j K → List·Memᴰ c (implied j) → ⊥
 unfolding paths flatMap
 line-implied {c = c} u (List·Memᴰ·head {x = x} {xs = K} e) p (List·Memᴰ·head e′) n =
     once-head (path x) _ u (Memᴰ·cast (ap path (sym e) ∙ sym p) (Memᴰ·append-left _ (subst (λ (z : Key). List·Memᴰ c (implied z)) e′ n)))
@@ -137,7 +146,7 @@ line-implied u (List·Memᴰ·tail {x = x} {xs = K} m) p (List·Memᴰ·tail m�
     line-implied (once-right (implied x) (paths K) (once-tail (path x) _ u)) m p m′ n
 
 -- "A context is the path of an earlier line": what no context equals, no line's path continues
-no-line : (c : Path) (earlier : List Path) (K : KeyList) → contextsKnown earlier K ≡ true → ((e : Path) → List·Memᴰ e earlier → continues c e ≡ false)
+pub no-line : (c : Path) (earlier : List Path) (K : KeyList) → contextsKnown earlier K ≡ true → ((e : Path) → List·Memᴰ e earlier → continues c e ≡ false)
     → ((k : Key) → List·Memᴰ k K → c ≡ k .context → ⊥) → (k : Key) → List·Memᴰ k K → continues c (path k) ≡ false
 unfolding contextsKnown path
 no-line c earlier [] e f h k m = absurd (List·Memᴰ·not-nil m)
@@ -159,7 +168,7 @@ no-line c earlier (j ∷ K) e f h k m = go (λ n. no-line c (path j ∷ earlier)
 
 -- ---- key names
 -- the line that a path has its key names from
-line-of : (K : KeyList) (q : Path) (n : Bytes) → any (same n) (keyNamesAt K q) ≡ true → (k : Key) × List·Memᴰ k K × (path k ≡ q) × List·Memᴰ (q ▸ n) (implied k)
+pub line-of : (K : KeyList) (q : Path) (n : Bytes) → any (same n) (keyNamesAt K q) ≡ true → (k : Key) × List·Memᴰ k K × (path k ≡ q) × List·Memᴰ (q ▸ n) (implied k)
 unfolding keyNamesAt any implied
 line-of [] q n e = absurd (clash e refl)
 line-of (k ∷ K) q n e = go (samePath (path k) q) refl (λ f. line-of K q n f) e
@@ -177,14 +186,14 @@ name-first : (n : Bytes) (ns : List Bytes) → any (same n) (n ∷ ns) ≡ true
 name-first n ns = mem-any (same n) {x = n} (List·Memᴰ·head refl) (same-self n)
 
 -- a path that no line has is bare
-no-names : (K : KeyList) (q : Path) → ((k : Key) → List·Memᴰ k K → q ≡ path k → ⊥) → keyNamesAt K q ≡ []
+pub no-names : (K : KeyList) (q : Path) → ((k : Key) → List·Memᴰ k K → q ≡ path k → ⊥) → keyNamesAt K q ≡ []
 unfolding keyNamesAt
 no-names [] q h = refl
 no-names (k ∷ K) q h =
     rw (not-so (samePath (path k) q) (λ e. h k (List·Memᴰ·head refl) (sym (samePath-is (path k) q e))), keyNamesAt) (no-names K q (λ j m. h j (List·Memᴰ·tail m)))
 
 module _ (K : KeyList) (q : Path) (n : Bytes) (u : rulesKept K ≡ true) (e : any (same n) (keyNamesAt K q) ≡ true) where
-  no-line-here : (k : Key) → List·Memᴰ k K → q ▸ n ≡ path k → ⊥
+  pub no-line-here : (k : Key) → List·Memᴰ k K → q ▸ n ≡ path k → ⊥
   no-line-here k m p = let t = line-of K q n e in line-implied (rules K u .once) m p (t .1) (t .3)
 
   pub key-listed : listed K (q ▸ n) ≡ true
@@ -220,15 +229,19 @@ module _ (K : KeyList) (q : Path) (n : Bytes) (u : rulesKept K ≡ true) (e : an
   key-frontier = rw (any-none (continues (q ▸ n)) (paths K) no-path)
 
 -- ---- beneath the frontiers
-above-not : (K : KeyList) (q : Path) → above K q ≡ false → any (continues q) (paths K) ≡ false
+pub above-not : (K : KeyList) (q : Path) → above K q ≡ false → any (continues q) (paths K) ≡ false
 unfolding above frontier
 above-not K q e = sym (Bool·not-not (any (continues q) (paths K))) ∙ e
 
-above-by : (K : KeyList) (q : Path) → any (continues q) (paths K) ≡ true → above K q ≡ true
+pub above-by : (K : KeyList) (q : Path) → any (continues q) (paths K) ≡ true → above K q ≡ true
 unfolding above frontier
 above-by K q e = rw e
 
-not-above : (K : KeyList) (q : Path) → any (continues q) (paths K) ≡ false → above K q ≡ false
+pub above-is : (K : KeyList) (q : Path) → above K q ≡ true → any (continues q) (paths K) ≡ true
+unfolding above frontier
+above-is K q e = sym (Bool·not-not (any (continues q) (paths K))) ∙ e
+
+pub not-above : (K : KeyList) (q : Path) → any (continues q) (paths K) ≡ false → above K q ≡ false
 unfolding above frontier
 not-above K q e = rw e
 

@@ -20,7 +20,7 @@ one-name [] x m e = (refl, cc)
 one-name (y ∷ []) x m e = let z : _≡_ {A = ℕ} 0 1 = cc in absurd (omega arith)
 one-name (y ∷ w ∷ c) x m e = let z : _≡_ {A = ℕ} 0 1 = cc in absurd (omega arith)
 
-not-empty : (c : Path) (x : Bytes) → c ▸ x ≡ [] → ⊥
+pub not-empty : (c : Path) (x : Bytes) → c ▸ x ≡ [] → ⊥
 not-empty [] x e = let z : _≡_ {A = ℕ} 0 1 = cc in omega arith
 not-empty (y ∷ c) x e = let z : _≡_ {A = ℕ} 0 1 = cc in omega arith
 

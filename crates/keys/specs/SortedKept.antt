@@ -30,7 +30,7 @@ module _ (K : KeyList) {p : Path} {f g : Forest} (t : Sorting K p f g) where
   unfolding depth
   sorted-depth = sorted-kept K (λ _ h. depth h) (λ p n k m j r. omega arith) (λ p n k r s e. omega arith) (λ p n k j r e. omega arith) t
 
-  sorted-nodes : nodes g ≡ nodes f
+  pub sorted-nodes : nodes g ≡ nodes f
   unfolding nodes
   sorted-nodes = sorted-kept K (λ _ h. nodes h) (λ p n k m j r. omega arith) (λ p n k r s e. omega arith) (λ p n k j r e. omega arith) t
 

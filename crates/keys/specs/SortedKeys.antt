@@ -86,7 +86,7 @@ abbrev unkeyedIn : KeyList → Path → Bytes → Forest → Bool
 unkeyedIn K p n k = not (all (λ key. isOneValue (called key k)) (keyNamesAt K (p ▸ n))) || unkeyed K (p ▸ n) k
 
 module _ (K : KeyList) (p : Path) (n : Bytes) (k r : Forest) (e : unkeyed K p (elem n k r) ≡ false) where
-  keyed-here : all (λ key. isOneValue (called key k)) (keyNamesAt K (p ▸ n)) ≡ true
+  pub keyed-here : all (λ key. isOneValue (called key k)) (keyNamesAt K (p ▸ n)) ≡ true
   unfolding unkeyed
   keyed-here =
       not-false (all (λ key. isOneValue (called key k)) (keyNamesAt K (p ▸ n)))

@@ -37,11 +37,11 @@ module _ (K : KeyList) (p : Path) (n : Bytes) (k r : Forest) (e : doubled K p (e
   unfolding doubled
   single-here = or-left (doubledIn K p n k r) (doubled K (p ▸ n) k) (or-left (doubledIn K p n k r || doubled K (p ▸ n) k) (doubled K p r) e)
 
-  single-kids : doubled K (p ▸ n) k ≡ false
+  pub single-kids : doubled K (p ▸ n) k ≡ false
   unfolding doubled
   single-kids = or-right (doubledIn K p n k r) (doubled K (p ▸ n) k) (or-left (doubledIn K p n k r || doubled K (p ▸ n) k) (doubled K p r) e)
 
-  single-rest : doubled K p r ≡ false
+  pub single-rest : doubled K p r ≡ false
   unfolding doubled
   single-rest = or-right (doubledIn K p n k r || doubled K (p ▸ n) k) (doubled K p r) e
 
@@ -88,7 +88,7 @@ sorted-single {K} {p} (put {n = n} {k = k} {r = r} a x y i) u d =
     (sorted-single y (keyed-rest K p n k r u) (single-rest K p n k r d))
 
 -- ---- siblings that ascend, each with sorted children
-abbrev Rising : KeyList → Path → Forest → Type 0
+abbrev pub Rising : KeyList → Path → Forest → Type 0
 Rising K p end = Unit {0}
 Rising K p (elem n k r) = First K p (label K p n k) r × (ordered K (p ▸ n) k ≡ k) × Rising K p r
 Rising K p (text b r) = ⊥
@@ -131,7 +131,7 @@ rising-ordered K p (elem n k r) a g =
     ordered-elem K p n k r a ∙ ap₂ (insertBy K p n) (g .1) (rising-ordered K p r a (g .2)) ∙ insert-first K p n k r (g .0)
 
 -- what is sorted ascends, and sorting it again changes nothing
-sorted-rising : {K : KeyList} {p : Path} {f g : Forest} → Sorting K p f g → unkeyed K p f ≡ false → doubled K p f ≡ false
+pub sorted-rising : {K : KeyList} {p : Path} {f g : Forest} → Sorting K p f g → unkeyed K p f ≡ false → doubled K p f ≡ false
     → (above K p ≡ true → Rising K p g) × (ordered K p g ≡ g)
 sorted-rising {K} {p} {f} (kept a) u d = (λ b. clash (sym b ∙ a), front-ordered K p f a)
 sorted-rising {K} {p} (empty a) u d = (λ _. tt, rising-ordered K p end a tt)

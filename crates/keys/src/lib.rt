@@ -1,1 +1,11 @@
-// Key lists, addresses and legal versions: definitions and laws alone.
+// Key lists, addresses and legal versions. The definitions and their laws are in specs/.
+pub mod address;
+pub mod arrange;
+pub mod choose;
+pub mod compare;
+pub mod doubles;
+pub mod keyed;
+pub mod label;
+pub mod measure;
+pub mod placed;
+pub mod places;

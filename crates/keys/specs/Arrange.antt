@@ -1,0 +1,127 @@
+-- A version put in canonical order: what is asked of its tape, and what the answer says.
+use Prim.Native.Nat.{ℕ, _≤_}
+use native.Mathlib.Omega.{arith}
+use mathlib.Core.Path.{_≡_, refl, sym, _∙_, subst}
+use mathlib.Core.Bool.{true, false, not, _&&_, _||_}
+use mathlib.Core.List.{List, []}
+use lib.Dec.{ltb}
+use lib.ListN.{length}
+use borrow.Author.Tests.{ltb-false}
+use Rattle.xml.specs.Bytes.{Bytes, bytes, same}
+use Rattle.xml.specs.Truth.{clash, or-left, or-right}
+use Rattle.xml.specs.Forest.{Forest, end, elem, text, stamp, write, nodes, depth}
+use Rattle.xml.specs.Tape.{Tape, size}
+use Rattle.xml.specs.TapeLaws.{tape-size, tape-one}
+use Rattle.keys.specs.ResultLaws.{ok-inj}
+use Rattle.keys.specs.KeyList.{Path, KeyList, above, listed}
+use Rattle.keys.specs.KeyListLaws.{rules-kept}
+use Rattle.keys.specs.Version.{_▸_, dropWhite, tooLarge, misplaced, unkeyed, doubled, ordered}
+use Rattle.keys.specs.Sorting.{misplaced-kids, misplaced-rest, sorted}
+use Rattle.keys.specs.SortedKept.{sorted-placed, sorted-nodes}
+use Rattle.keys.specs.DropLaws.{unkeyed-drop, doubled-drop}
+use Rattle.keys.specs.Table.{Table}
+use Rattle.keys.specs.PlaceLaws.{place-root}
+use Rattle.keys.specs.Checked.{Checked}
+use Rattle.keys.specs.Doubles.{DoubledIn}
+use Rattle.keys.specs.Building.{ContentFit, ContentBuilt}
+use Rattle.keys.specs.declared.arrange.Arranged.{Arranged}
+use Rattle.keys.specs.declared.arrange.Arranged.the-variants.{Done, Double}
+
+-- the nodes 0 to count are a version that has passed 6, 7 and 8
+pub record VersionFit (keyText : Bytes) (table : List ℕ) (n : ℕ) (src cells : List ℕ) (count : ℕ) : Type 0 where
+  pub keyList : KeyList
+  pub tabled : Table keyText table n keyList
+  pub forest : Forest
+  pub tape : Tape src cells 0 count forest
+  pub small : tooLarge (dropWhite keyList [] forest) ≡ false
+  pub placed : misplaced keyList [] (dropWhite keyList [] forest) ≡ false
+  pub keyed : unkeyed keyList [] (dropWhite keyList [] forest) ≡ false
+
+-- the nodes 0 to m are the version v in canonical order
+pub record Ordered (K : KeyList) (v : Forest) (src left : List ℕ) (m : ℕ) : Type 0 where
+  pub single : doubled K [] v ≡ false
+  pub tape : Tape src left 0 m (ordered K [] v)
+  pub count : m ≡ nodes v
+  pub few : m ≤ 512
+
+-- 9 applies, and nothing is written
+pub record Refused (K : KeyList) (v : Forest) (out left : List ℕ) : Type 0 where
+  pub twice : doubled K [] v ≡ true
+  pub untouched : left ≡ out
+
+abbrev pub AnswerOf : KeyList → Forest → List ℕ → List ℕ → List ℕ → Arranged → Type 0
+AnswerOf K v src out left (Done m) = Ordered K v src left m
+AnswerOf K v src out left Double = Refused K v out left
+
+-- whichever key list and forest they are
+abbrev pub Answers : Bytes → List ℕ → ℕ → List ℕ → List ℕ → ℕ → List ℕ → List ℕ → Arranged → Type 0
+Answers keyText table n src cells count out left r =
+    (K : KeyList) (f : Forest) → Table keyText table n K → Tape src cells 0 count f → AnswerOf K (dropWhite K [] f) src out left r
+
+-- where no element is a `T`, each node counts
+size-nodes : (K : KeyList) (p : Path) (f : Forest) → misplaced K p f ≡ false → size f ≡ nodes f
+unfolding size nodes misplaced
+size-nodes K p end m = refl
+size-nodes K p (text b r) m = omega (arith, size-nodes K p r (or-right (above K p) (misplaced K p r) m))
+size-nodes K p (stamp t k r) m = clash m
+size-nodes K p (elem n k r) m =
+    let e = or-left (same n (bytes "T")) (above K p && not (listed K (p ▸ n))) (or-left (same n (bytes "T") || above K p && not (listed K (p ▸ n))) (misplaced K (p ▸ n) k)
+    (or-left (same n (bytes "T") || above K p && not (listed K (p ▸ n)) || misplaced K (p ▸ n) k) (misplaced K p r) m)) in
+    let i = size-nodes K (p ▸ n) k (misplaced-kids K p n k r m) in
+    let j = size-nodes K p r (misplaced-rest K p n k r m) in
+    rw e (omega arith)
+
+module _ {keyText : Bytes} {table : List ℕ} {n : ℕ} {src cells : List ℕ} {count : ℕ} (g : VersionFit keyText table n src cells count) where
+  abbrev v : Forest
+  v = dropWhite (g .keyList) [] (g .forest)
+
+  few-nodes : nodes v ≤ 512
+  unfolding tooLarge
+  few-nodes = ltb-false 512 (nodes v) (or-right (ltb 16 (depth v)) (ltb 512 (nodes v)) (or-left (ltb 16 (depth v) || ltb 512 (nodes v)) (ltb 16384 (length (write v))) (g .small)))
+
+  ordered-size : size (ordered (g .keyList) [] v) ≡ nodes v
+  ordered-size =
+      let s = sorted (g .keyList) [] v (g .placed) in
+      size-nodes (g .keyList) [] (ordered (g .keyList) [] v) (sorted-placed (g .keyList) s ∙ g .placed) ∙ sorted-nodes (g .keyList) s
+
+  raw-keyed : unkeyed (g .keyList) [] (g .forest) ≡ false
+  raw-keyed = sym (unkeyed-drop (g .keyList) (rules-kept keyText (g .keyList) (g .tabled .accepted)) [] (g .forest)) ∙ g .keyed
+
+  pub version-checked : Checked keyText table n 128 src cells 0 count
+  version-checked =
+      record { keyList = g .keyList; path = []; tabled = g .tabled; place-is = place-root (g .keyList); forest = g .forest; tape = g .tape; keyed = raw-keyed }
+
+  pub version-fits : DoubledIn keyText table n 128 src cells 0 count false → ContentFit keyText table n 128 src cells 0 count 0
+  version-fits d =
+      record {
+        keyList = g .keyList;
+        path = [];
+        tabled = g .tabled;
+        place-is = place-root (g .keyList);
+        forest = g .forest;
+        tape = g .tape;
+        start = omega arith;
+        placed = g .placed;
+        keyed = raw-keyed;
+        single = sym (d (g .keyList) [] (g .tabled) (place-root (g .keyList)) (g .forest) (g .tape));
+        fits = omega (arith, ordered-size, few-nodes);
+      }
+
+  pub version-ordered : {out left : List ℕ} {m : ℕ} → DoubledIn keyText table n 128 src cells 0 count false → ContentBuilt keyText table n 128 src cells 0 count out 0 m left
+      → (K : KeyList) (f : Forest) → Table keyText table n K → Tape src cells 0 count f → Ordered K (dropWhite K [] f) src left m
+  version-ordered {left = left} {m = m} d b K f t h =
+      let e : g .keyList ≡ K = ok-inj (sym (g .tabled .accepted) ∙ t .accepted) in
+      let x = b .tape (g .keyList) [] (g .tabled) (place-root (g .keyList)) (g .forest) (g .tape) in
+      let c : m ≡ nodes v = omega (arith, tape-size x, ordered-size) in
+      subst (λ J. Ordered J (dropWhite J [] f) src left m) e (rw (tape-one h (g .tape))
+      (record {
+        single = doubled-drop (g .keyList) (rules-kept keyText (g .keyList) (g .tabled .accepted)) [] (g .forest) ∙ sym (d (g .keyList) [] (g .tabled) (place-root (g .keyList)) (g .forest) (g .tape));
+        tape = x;
+        count = c;
+        few = omega (arith, few-nodes);
+      }))
+
+pub version-twice : {keyText : Bytes} {table : List ℕ} {n : ℕ} {src cells : List ℕ} {count : ℕ} (out : List ℕ) → DoubledIn keyText table n 128 src cells 0 count true
+    → (K : KeyList) (f : Forest) → Table keyText table n K → Tape src cells 0 count f → Refused K (dropWhite K [] f) out out
+version-twice {keyText} out d K f t h =
+    record { twice = doubled-drop K (rules-kept keyText K (t .accepted)) [] f ∙ sym (d K [] t (place-root K) f h); untouched = refl }

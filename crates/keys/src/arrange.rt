@@ -1,0 +1,105 @@
+// A version's kept nodes in canonical order, on a second tape.
+use crate::choose::least_after;
+use crate::doubles::doubled_in;
+use crate::places::child;
+use crate::places::is_above;
+use xml::tape::view_at;
+ghost use Prim.Native.Nat.{_+_, _≤_};
+ghost use lib.ListN.{length};
+ghost use Rattle.keys.specs.Copied.{Linked, Copied};
+ghost use Rattle.keys.specs.Building.{ContentFit, ElementFit, ContentBuilt, ElementBuilt};
+ghost use Rattle.keys.specs.Arrange.{VersionFit, Answers};
+
+// So many nodes in canonical order; or two siblings with one name and key.
+pub enum Arranged {
+    Done(usize),
+    Double,
+}
+
+// Copies the nodes lo to hi to the nodes from m on of `out`, as they are, and answers the node after them.
+fn copy(tape: &[u32], lo: usize, hi: usize, out: &mut [u32], m: usize) -> usize
+    requires { ⌜ Linked (now tape) lo hi × (m + hi ≤ 512 + lo) × (1024 ≤ length (now out)) ⌝ }
+    ensures { λ r. ⌜ Copied (now (tape .entry)) lo hi (now (out .entry)) m r (now (out .exit)) ⌝ }
+{
+    let mut i = lo;
+    let mut to = m;
+    while i < hi {
+        out[2 * to] = tape[2 * i];
+        out[2 * to + 1] = (tape[2 * i + 1] as usize - lo + m) as u32;
+        i += 1;
+        to += 1;
+    }
+    to
+}
+
+// Builds the element p, in an element at the place, from node m of `out` on, and answers the node after it. Its second cell is written last.
+fn arrange_element(
+    text: &[u8],
+    table: &[u32],
+    n: usize,
+    place: usize,
+    src: &[u8],
+    tape: &[u32],
+    p: usize,
+    out: &mut [u32],
+    m: usize,
+) -> usize
+    requires { ⌜ ElementFit (now text) (now table) n place (now src) (now tape) p m × (1024 ≤ length (now out)) ⌝ }
+    ensures { λ r. ⌜ ElementBuilt (now (text .entry)) (now (table .entry)) n place (now (src .entry)) (now (tape .entry)) p (now (out .entry)) m r (now (out .exit)) ⌝ }
+{
+    let v = view_at(tape, p);
+    let own = child(text, table, n, place, src, v.start, v.end);
+    out[2 * m] = tape[2 * p];
+    let end = arrange_content(text, table, n, own, src, tape, p + 1, v.next, out, m + 1);
+    out[2 * m + 1] = end as u32;
+    end
+}
+
+// Builds the nodes lo to hi, in an element at the place: in canonical order above the frontiers, where the next is always the one with the least
+// label above that of the last; as they are beneath.
+fn arrange_content(
+    text: &[u8],
+    table: &[u32],
+    n: usize,
+    place: usize,
+    src: &[u8],
+    tape: &[u32],
+    lo: usize,
+    hi: usize,
+    out: &mut [u32],
+    m: usize,
+) -> usize
+    requires { ⌜ ContentFit (now text) (now table) n place (now src) (now tape) lo hi m × (1024 ≤ length (now out)) ⌝ }
+    ensures { λ r. ⌜ ContentBuilt (now (text .entry)) (now (table .entry)) n place (now (src .entry)) (now (tape .entry)) lo hi (now (out .entry)) m r (now (out .exit)) ⌝ }
+{
+    if !is_above(table, n, place) {
+        return copy(tape, lo, hi, out, m);
+    }
+    let mut to = m;
+    let mut p = least_after(text, table, n, place, src, tape, lo, hi, hi);
+    while p < hi {
+        to = arrange_element(text, table, n, place, src, tape, p, out, to);
+        p = least_after(text, table, n, place, src, tape, lo, hi, p);
+    }
+    to
+}
+
+// Puts the version on the nodes 0 to count of `tape`, which has passed 6, 7 and 8, onto `out` in canonical order; or finds that 9 applies.
+pub fn arrange(
+    text: &[u8],
+    table: &[u32],
+    n: usize,
+    src: &[u8],
+    tape: &[u32],
+    count: usize,
+    out: &mut [u32],
+) -> Arranged
+    requires { ⌜ VersionFit (now text) (now table) n (now src) (now tape) count × (1024 ≤ length (now out)) ⌝ }
+    ensures { λ r. ⌜ Answers (now (text .entry)) (now (table .entry)) n (now (src .entry)) (now (tape .entry)) count (now (out .entry)) (now (out .exit)) r ⌝ }
+{
+    if doubled_in(text, table, n, 128, src, tape, 0, count) {
+        return Arranged::Double;
+    }
+    let end = arrange_content(text, table, n, 128, src, tape, 0, count, out, 0);
+    Arranged::Done(end)
+}

@@ -1,0 +1,201 @@
+// Refusal 8: a key child that is missing, repeated or illegal. Asked once 6 does not apply.
+use crate::compare::same_bytes;
+use crate::places::child;
+use crate::places::key_count;
+use crate::places::key_name;
+use xml::class::class;
+use xml::tape::view_at;
+ghost use mathlib.Core.Path.{_≡_};
+ghost use mathlib.Core.List.{[]};
+ghost use Prim.Native.Nat.{_*_, _+_, _<_, _≤_};
+ghost use lib.ListN.{length};
+ghost use lib.Seq.{slice};
+ghost use Rattle.xml.specs.Bytes.{isValue};
+ghost use Rattle.xml.specs.Forest.{Forest};
+ghost use Rattle.xml.specs.Tape.{headAt, nextAt, endIn, Tape, Valid};
+ghost use Rattle.keys.specs.Version.{dropWhite, unkeyed, called, isKeyValue, isOneValue};
+ghost use Rattle.keys.specs.Walks.{Walk, OfNodes, OfVersion};
+ghost use Rattle.keys.specs.Strays.{keyless, lacking};
+ghost use Rattle.keys.specs.KeyChild.{isCalled, CalledAt};
+
+// src[a..e] is a key value: 1 to 32 letters, digits, `.`, `-`, `_`.
+pub fn is_value(src: &[u8], a: usize, e: usize) -> bool
+    requires { ⌜ (a ≤ e) × (e ≤ length (now src)) ⌝ }
+    ensures { λ r. ⌜ r ≡ isValue (slice a e (now (src .entry))) ⌝ }
+{
+    if e - a < 1 {
+        return false;
+    }
+    if e - a > 32 {
+        return false;
+    }
+    let mut i = a;
+    while i < e {
+        if class(src[i]) / 2 != 1 {
+            return false;
+        }
+        i += 1;
+    }
+    true
+}
+
+// The nodes lo to hi are one run of text, which is a key value.
+pub fn is_key_value(src: &[u8], tape: &[u32], lo: usize, hi: usize) -> bool
+    requires { ⌜ Valid (now src) (now tape) lo hi ⌝ }
+    ensures { λ r. ⌜ ((f : Forest) → Tape (now (src .entry)) (now (tape .entry)) lo hi f → r ≡ isKeyValue f) ⌝ }
+{
+    if lo == hi {
+        return false;
+    }
+    let v = view_at(tape, lo);
+    if v.kind != 0 {
+        return false;
+    }
+    if v.next != hi {
+        return false;
+    }
+    is_value(src, v.start, v.end)
+}
+
+// The node p is an element with the name text[a..e].
+fn is_called(src: &[u8], tape: &[u32], p: usize, text: &[u8], a: usize, e: usize) -> bool
+    requires { ⌜ (2 * p + 1 < length (now tape)) × (endIn (headAt (now tape) p) ≤ length (now src)) × (a ≤ e) × (e ≤ length (now text)) ⌝ }
+    ensures { λ r. ⌜ r ≡ isCalled (now (src .entry)) (now (tape .entry)) p (slice a e (now (text .entry))) ⌝ }
+{
+    let v = view_at(tape, p);
+    if v.kind != 1 {
+        return false;
+    }
+    same_bytes(text, a, e, src, v.start, v.end)
+}
+
+// The first element of the siblings lo to hi that has the name text[a..e]; hi if there is none.
+pub fn find_key(
+    src: &[u8],
+    tape: &[u32],
+    lo: usize,
+    hi: usize,
+    text: &[u8],
+    a: usize,
+    e: usize,
+) -> usize
+    requires { ⌜ Valid (now src) (now tape) lo hi × (a ≤ e) × (e ≤ length (now text)) ⌝ }
+    ensures { λ r. ⌜ ((f : Forest) → Tape (now (src .entry)) (now (tape .entry)) lo hi f
+        → CalledAt (now (src .entry)) (now (tape .entry)) hi (slice a e (now (text .entry))) r (called (slice a e (now (text .entry))) f)) ⌝ }
+{
+    let mut p = lo;
+    while p < hi {
+        if is_called(src, tape, p, text, a, e) {
+            return p;
+        }
+        p = view_at(tape, p).next;
+    }
+    p
+}
+
+// Of the siblings lo to hi, just one element has the name text[a..e], and it holds a key value.
+fn has_key(src: &[u8], tape: &[u32], lo: usize, hi: usize, text: &[u8], a: usize, e: usize) -> bool
+    requires { ⌜ Valid (now src) (now tape) lo hi × (a ≤ e) × (e ≤ length (now text)) ⌝ }
+    ensures { λ r. ⌜ ((f : Forest) → Tape (now (src .entry)) (now (tape .entry)) lo hi f → r ≡ isOneValue (called (slice a e (now (text .entry))) f)) ⌝ }
+{
+    let p = find_key(src, tape, lo, hi, text, a, e);
+    if p == hi {
+        return false;
+    }
+    let v = view_at(tape, p);
+    if find_key(src, tape, v.next, hi, text, a, e) != hi {
+        return false;
+    }
+    is_key_value(src, tape, p + 1, v.next)
+}
+
+// An element at a place, which holds the nodes lo to hi, has not each key child just once with a value.
+fn lacks_key(
+    text: &[u8],
+    table: &[u32],
+    n: usize,
+    place: usize,
+    src: &[u8],
+    tape: &[u32],
+    lo: usize,
+    hi: usize,
+) -> bool
+    requires { ⌜ Walk (now text) (now table) n place (now src) (now tape) lo hi ⌝ }
+    ensures { λ r. ⌜ OfNodes (now (text .entry)) (now (table .entry)) n place (now (src .entry)) (now (tape .entry)) lo hi (λ K p f. r ≡ lacking K p f) ⌝ }
+{
+    let count = key_count(table, n, place);
+    let mut j = 0;
+    while j < count {
+        let name = key_name(table, place + 1 + j);
+        if !has_key(src, tape, lo, hi, text, name.start, name.end) {
+            return true;
+        }
+        j += 1;
+    }
+    false
+}
+
+// In the node p, in an element at a place, a key child is missing, repeated or illegal.
+fn unkeyed_node(
+    text: &[u8],
+    table: &[u32],
+    n: usize,
+    place: usize,
+    src: &[u8],
+    tape: &[u32],
+    p: usize,
+) -> bool
+    requires { ⌜ (p < nextAt (now tape) p) × Walk (now text) (now table) n place (now src) (now tape) p (nextAt (now tape) p) ⌝ }
+    ensures { λ r. ⌜ OfNodes (now (text .entry)) (now (table .entry)) n place (now (src .entry)) (now (tape .entry)) p (nextAt (now (tape .entry)) p)
+        (λ K q f. r ≡ keyless K q f) ⌝ }
+{
+    let v = view_at(tape, p);
+    if v.kind != 1 {
+        return false;
+    }
+    let below = child(text, table, n, place, src, v.start, v.end);
+    if lacks_key(text, table, n, below, src, tape, p + 1, v.next) {
+        return true;
+    }
+    unkeyed_content(text, table, n, below, src, tape, p + 1, v.next)
+}
+
+// In the nodes lo to hi, in an element at a place, a key child is missing, repeated or illegal.
+fn unkeyed_content(
+    text: &[u8],
+    table: &[u32],
+    n: usize,
+    place: usize,
+    src: &[u8],
+    tape: &[u32],
+    lo: usize,
+    hi: usize,
+) -> bool
+    requires { ⌜ Walk (now text) (now table) n place (now src) (now tape) lo hi ⌝ }
+    ensures { λ r. ⌜ OfNodes (now (text .entry)) (now (table .entry)) n place (now (src .entry)) (now (tape .entry)) lo hi (λ K q f. r ≡ keyless K q f) ⌝ }
+{
+    let mut p = lo;
+    while p < hi {
+        if unkeyed_node(text, table, n, place, src, tape, p) {
+            return true;
+        }
+        p = view_at(tape, p).next;
+    }
+    false
+}
+
+// 8, of the version with these nodes.
+pub fn is_unkeyed(
+    text: &[u8],
+    table: &[u32],
+    n: usize,
+    src: &[u8],
+    tape: &[u32],
+    count: usize,
+) -> bool
+    requires { ⌜ Walk (now text) (now table) n 128 (now src) (now tape) 0 count ⌝ }
+    ensures { λ r. ⌜ OfVersion (now (text .entry)) (now (table .entry)) n (now (src .entry)) (now (tape .entry)) count
+        (λ K f. r ≡ unkeyed K [] (dropWhite K [] f)) ⌝ }
+{
+    unkeyed_content(text, table, n, 128, src, tape, 0, count)
+}
