@@ -22,7 +22,12 @@ pub mod CutSets
 pub mod BackContents
 pub mod BackLaws
 pub mod HistoryLaws
+pub mod HistorySteps
+pub mod HistoryTape
+pub mod HistoryParts
+pub mod HistoryWalk
 pub mod TimesLength
+pub mod AllTimed
 pub mod BackLength
 pub mod FrontLegal
 pub mod KeyLooked
@@ -34,4 +39,8 @@ pub mod Adequate
 pub mod WalkRead
 pub mod WalkLaws
 pub mod Sizes
+pub mod Rendered
+pub mod VersionText
+pub mod Timely
+pub mod BackText
 pub mod Standing

@@ -79,7 +79,7 @@ nodes-pick i (stamp t k r) h = go (belongs i t) refl (h .1) (nodes-pick i k) (no
     go true e g ih not-in rest = rw (e, nodes-join (pick i k) (pick i r)) (omega (arith, ih (rw e at g), rest))
     go false e g ih not-in rest = rw e (omega (arith, not-in (rw e at g), rest))
 
-write-join : (f g : Forest) → write (join f g) ≡ write f ++ write g
+pub write-join : (f g : Forest) → write (join f g) ≡ write f ++ write g
 unfolding join write
 write-join end g = refl
 write-join (text b r) g = rw (write-join r g) (sym (append-assoc (escape b) (write r) (write g)))

@@ -1,1 +1,4 @@
-// Archives and the six calls: definitions and theorems alone.
+// Archives: the walks over an archive's tape. The definitions and their laws are in specs/.
+pub mod back;
+pub mod history;
+pub mod retrieve;

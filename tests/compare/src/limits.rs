@@ -1,0 +1,402 @@
+//! The limits, the worked record and each refusal: the same cases in every run, before the rounds.
+
+use crate::comparison::Comparison;
+use crate::station::Call;
+use reference::shelf::Shelf;
+
+const STATION: &str = "(/, (station, {}))\n(/station, (light, {}))\n(/station, (lamp, {pos}))\n(/station/lamp, (type, {}))\n(/station/lamp, (hours, {}))\n";
+const KEYS: &str = "(/, (s, {}))\n(/s, (f, {}))\n(/s, (g, {}))\n(/s, (k, {p}))\n(/s/k, (v, {}))\n";
+
+pub fn run(c: &mut Comparison) {
+    c.place = "limits".into();
+    record(c);
+    key_lists(c);
+    spellings(c);
+    versions(c);
+    numbers_of_versions(c);
+    sizes_of_archives(c);
+    archives(c);
+    addresses(c);
+}
+
+fn f(content: &str) -> String {
+    format!("<s><f>{content}</f></s>")
+}
+
+fn found(c: &mut Comparison, keys: &str, version: &str) -> Vec<u8> {
+    c.ask_each_output(keys.as_bytes(), Call::Found { version: version.as_bytes() }).bytes
+}
+
+fn add(c: &mut Comparison, keys: &str, archive: &[u8], version: &str) -> Vec<u8> {
+    c.ask_each_output(keys.as_bytes(), Call::Add { archive, version: version.as_bytes() }).bytes
+}
+
+/// Each reading call on an archive, with numbers in and out of 1 to n.
+fn read_all(c: &mut Comparison, keys: &str, archive: &[u8], numbers: &[usize], addresses: &[&str]) {
+    for &i in numbers {
+        c.ask_each_output(keys.as_bytes(), Call::Retrieve { archive, i });
+        c.ask_each_output(keys.as_bytes(), Call::Back { archive, i });
+    }
+    for address in addresses {
+        c.ask_each_output(keys.as_bytes(), Call::History { archive, address: address.as_bytes() });
+    }
+}
+
+fn record(c: &mut Comparison) {
+    let v1 = "<station><light>Fl 5s</light><lamp><pos>2</pos><type>A</type><hours>40</hours></lamp></station>";
+    let v2 = "<station><light>Fl 5s</light><lamp><pos>2</pos><type>A</type><hours>90</hours></lamp><lamp><pos>1</pos><type>B</type></lamp></station>";
+    let v3 = "<station><light>Fl 5s</light><lamp><pos>1</pos><type>B</type></lamp></station>";
+    c.ask_each_output(STATION.as_bytes(), Call::CheckKeys);
+    let mut archive = found(c, STATION, v1);
+    for version in [v2, v3] {
+        archive = add(c, STATION, &archive, version);
+    }
+    let addresses = ["/station/lamp[pos=\"1\"]", "/station/lamp[pos=\"2\"]/hours", "/station/lamp[pos=\"7\"]", "/station", "/station/lamp[pos=\"2\"]/pos", "/station/lamp"];
+    read_all(c, STATION, &archive, &[0, 1, 2, 3, 4, usize::MAX], &addresses);
+    for version in ["", "<station><lamp><pos>2</pos></lamp><lamp><pos>2</pos></lamp></station>", "<station><lamp><type>A</type></lamp></station>"] {
+        found(c, STATION, version);
+        add(c, STATION, &archive, version);
+    }
+    // An empty text in each place.
+    read_all(c, STATION, b"", &[0, 1], &[""]);
+    read_all(c, "", &archive, &[0, 1], &[""]);
+    read_all(c, STATION, &archive, &[], &[""]);
+}
+
+fn key_lists(c: &mut Comparison) {
+    let check = |c: &mut Comparison, keys: &str| {
+        c.ask_each_output(keys.as_bytes(), Call::CheckKeys);
+        found(c, keys, "<s></s>");
+    };
+    let root = "(/, (s, {}))\n";
+    let alone = [
+        "", "\n", " ", "(/, (s, {}))", "(/, (s, {}))\r\n", "(/, (s, {}))\n\n", "\n(/, (s, {}))\n", "(/, (s, {}))\n ", "(/,(s, {}))\n", "(/, (s,{}))\n", "(/, (s, {} ))\n", "(/, (s, { }))\n", " (/, (s, {}))\n", "(/ , (s, {}))\n",
+        "(/s, (s, {}))\n", "(, (s, {}))\n", "(//, (s, {}))\n", "(/, (1, {}))\n", "(/, (, {}))\n", "(/, (_, {}))\n", "(/, (s.-_9Z, {}))\n", "(/, (s, {a}))\n", "(/, (s, {T}))\n", "(/, (T, {}))\n", "(/, (t, {}))\n", "(/, (TT, {}))\n",
+        "(/, (s, {}))\n(/, (s, {}))\n", "(/, (T, {}))\n(/, (t, {}))\n", "(/, (s, {}\n", "(/, (s, {})\n", "(/, (s, {})))\n", "(/, (s))\n", "(/, s, {}))\n", "(/, (s, {a, }))\n", "(/, (s, {, a}))\n", "(/, (s:t, {}))\n",
+    ];
+    alone.iter().for_each(|keys| check(c, keys));
+    let after_root = [
+        "(/, (t, {}))\n", "(/s/, (t, {}))\n", "(//s, (t, {}))\n", "(s, (t, {}))\n", "(/s, (t, {a,b}))\n", "(/s, (t, {a,  b}))\n", "(/s, (t, {a, a}))\n", "(/s, (t, {T}))\n", "(/s, (T, {}))\n", "(/s/T, (t, {}))\n", "(/T, (t, {}))\n", "(/t, (t, {}))\n",
+        "(/s, (s, {s}))\n", "(/s, (t, {t}))\n", "(/s, (t, {}))\n(/s, (t, {}))\n", "(/s, (t, {a}))\n(/s, (t, {}))\n", "(/s, (t, {a}))\n(/s/t, (a, {}))\n", "(/s, (t, {a}))\n(/s/t/a, (b, {}))\n", "(/s, (t, {a}))\n(/s/t, (b, {}))\n",
+        "(/s, (t, {}))\n(/s/t, (b, {}))\n", "(/s/t, (b, {}))\n(/s, (t, {}))\n", "(/s, (t, {b, a}))\n(/s/t, (b.a, {a, b}))\n", "(/s, (t, {a})) \n", "(/s, (t, {a}))\n(/s/t/a, (b, {}))\n(/s/t, (a, {}))\n", "(/s/1, (t, {}))\n", "(/s, (t, {1}))\n",
+    ];
+    after_root.iter().for_each(|keys| check(c, &format!("{root}{keys}")));
+    let lines = |count: usize, keys: &str| (0..count).map(|i| format!("(/s, (n{i}, {{{keys}}}))\n")).collect::<String>();
+    for count in [62, 63, 64, 65] {
+        check(c, &(root.to_string() + &lines(count, "")));
+    }
+    for last in ["", "(/s, (x, {}))\n", "(/s, (x, {a}))\n", "(/s, (x, {a, b}))\n", "(/s, (x, {}))\n(/s, (y, {}))\n(/s, (z, {}))\n"] {
+        check(c, &(root.to_string() + &lines(25, "a, b, c, d") + last));
+    }
+    for names in [7, 8, 9] {
+        for key in ["", "k"] {
+            let (mut keys, mut path) = (root.to_string(), "/s".to_string());
+            for number in 2..=names {
+                keys += &format!("({path}, (c, {{{}}}))\n", if number == names { key } else { "" });
+                path += "/c";
+            }
+            check(c, &keys);
+            // A context that is too long, under the rules and not the notation.
+            check(c, &(keys.clone() + &format!("({path}/c/c, (c, {{}}))\n")));
+        }
+    }
+    for length in [31, 32, 33] {
+        let name = "n".repeat(length);
+        check(c, &format!("(/, ({name}, {{}}))\n"));
+        check(c, &format!("{root}(/s, ({name}, {{}}))\n"));
+        check(c, &format!("{root}(/s, (x, {{{name}}}))\n"));
+        check(c, &format!("{root}(/{name}, (x, {{}}))\n"));
+    }
+    for keys in ["a, b, c, d", "a, b, c, d, e", "a, b, c, a", "a, a"] {
+        check(c, &format!("{root}(/s, (x, {{{keys}}}))\n"));
+    }
+    for size in [4_095, 4_096, 4_097] {
+        let keys = keys_of_size(size);
+        check(c, &keys);
+        // Not in the notation, and too long or not.
+        check(c, &keys.replace("(/s", "(s/"));
+    }
+}
+
+/// A legal key list of so many bytes, but for its size: 23 lines after the root's.
+fn keys_of_size(size: usize) -> String {
+    let mut keys = "(/, (s, {}))\n".to_string();
+    for number in 0..23 {
+        let left = size - keys.len();
+        let bytes = if number < 22 { 178 } else { left };
+        let last = "e".repeat(bytes - 51 - 96);
+        keys += &format!("(/s, ({}{number:02}, {{{}, {}, {}, {last}}}))\n", "n".repeat(30), "b".repeat(32), "c".repeat(32), "d".repeat(32));
+    }
+    keys
+}
+
+/// Markup, text and entities, legal and not, in a frontier, above one, and around the root.
+fn spellings(c: &mut Comparison) {
+    let spellings = [
+        "", " ", "\t\r\n", "x", " x ", "a>b", ">", "]", "]]", "]]>", "]]]>", "]]&gt;", "] ]>", "]]<a/>>", "]<a/>]>", "]]<a></a>>", "\"'", "&lt;", "&gt;", "&amp;", "&quot;", "&apos;",
+        "&lt;&gt;&amp;&quot;&apos;", "&amp;lt;", "&", "& ", "&;", "&lt", "&LT;", "&#65;", "&#x41;", "&nbsp;", "&amp", "&am;", "<", "< ", "<>", "</>", "<a", "<a>", "</a>", "<a/>", "<a></a>", "<a/ >", "<a />", "<a ></a>",
+        "<a></a >", "< a/>", "<a//>", "</a/>", "</ a>", "<a></b>", "<a><b></a></b>", "<a b=\"c\"/>", "<a\n/>", "<1/>", "<-/>", "<./>", "<_/>", "<a.-_1/>", "<a:b/>", "<!-- c -->", "<!a>", "<?p?>", "<![CDATA[x]]>", "<T/>",
+        "<T></T>", "<T>x</T>", "<T t=\"1\">x</T>", "<T t=\"1\"/>", "<t/>", "<TT/>", "<a><T/></a>", "<s><f/></s>", "<f/>", "<f> </f><f> </f>", "<g/>", "<g/><g/>", "<g>x<g/>y</g>", "<k/>", "<k><p>1</p></k>",
+        "<k> <p>1</p>\n</k>", "<k><p>1</p></k><k><p>2</p></k>", "<k><p>1</p></k><k><p>1</p></k>", "<k><p>1</p><p>1</p></k>", "<k><p>1</p><v/><v/></k>", "<k><p>1</p>x</k>", "<k><p/></k>", "<k><p> 1</p></k>", "<k><p>&lt;</p></k>",
+        "<k><p>1<a/></p></k>", "<k><p><a/></p></k>", "<k><p>1</p><q/></k>", "<k><v/></k>", "<k><v/><v/></k>", "<k/><k/><g/><g/>", "<k/><k/><u/>", "<g/><g/><T/>", "<u/>", "\x0b", "\x00", "\x1f", "\x7f", "~",
+    ];
+    for spelling in spellings {
+        for text in [spelling.to_string(), f(spelling), format!("<s>{spelling}</s>"), format!("{spelling}<s/>"), format!("<s/>{spelling}"), f(&format!("<a>{spelling}</a>"))] {
+            let archive = found(c, KEYS, &text);
+            if !archive.is_empty() {
+                read_all(c, KEYS, &archive, &[1], &["/s/f", "/s/k[p=\"1\"]"]);
+            }
+            // The same as an archive's text.
+            read_all(c, KEYS, format!("<T t=\"1\">{text}</T>").as_bytes(), &[1], &[]);
+        }
+    }
+}
+
+fn versions(c: &mut Comparison) {
+    let small = found(c, KEYS, "<s/>");
+    let mut texts: Vec<String> = vec![];
+    for count in [509, 510, 511] {
+        for name in ["a", "T"] {
+            texts.push(f(&format!("<{name}/>").repeat(count)));
+            texts.push(format!("<s>x<f>{}</f></s>", format!("<{name}/>").repeat(count)));
+            texts.push(format!("<s> <f>{}</f>\n</s> ", format!("<{name}/>").repeat(count)));
+            texts.push(format!("<s><g/><f>{}</f></t>", format!("<{name}/>").repeat(count)));
+        }
+    }
+    for count in [254, 255, 256] {
+        texts.push(f(&"<a/>x".repeat(count)));
+        texts.push(f(&"<a> </a>".repeat(count)));
+        texts.push(f(&format!(" {}", "<a/> ".repeat(count))));
+        texts.push(format!("<u>{}</u>", " <a/>".repeat(count)));
+        texts.push(format!("<u>{} </u>", " <a/>".repeat(count)));
+        texts.push(format!("<s>{}</s>", " <g/>".repeat(count)));
+        texts.push(format!("<s>{}</s>", "<k> <p>1</p> </k>".repeat(count)));
+    }
+    for deep in [13, 14, 15, 16, 100, 2_000] {
+        for name in ["a", "T", "s"] {
+            let nested = format!("<{name}>").repeat(deep) + &format!("</{name}>").repeat(deep);
+            texts.push(f(&nested));
+            texts.push(nested);
+            texts.push(f(&(format!("<{name}>").repeat(deep) + "<b/>" + &format!("</{name}>").repeat(deep))));
+        }
+        texts.push("<a>".repeat(deep));
+        texts.push("</a>".repeat(deep));
+    }
+    texts.push("<a>".repeat(5_461));
+    texts.push("<".repeat(16_384));
+    texts.push("&".repeat(16_384));
+    let around = f("").len();
+    for size in [16_383, 16_384, 16_385] {
+        texts.push(f(&"x".repeat(size - around)));
+        texts.push(f(&(" ".repeat(size - around - 1) + "<")));
+        texts.push(" ".repeat(size - 4) + "<s/>");
+        texts.push(" ".repeat(size));
+        texts.push(format!("<s>{}</s>", " ".repeat(size - 7)));
+        // The written form of this size: four bytes for each `>`.
+        let more = size - around;
+        for greater in [">", "&gt;", "&lt;"] {
+            texts.push(f(&("x".repeat(more % 4) + &greater.repeat(more / 4))));
+        }
+        texts.push(f(&("x".repeat(more % 5) + &"&amp;".repeat(more / 5))));
+        texts.push(format!("<s/{}>", "x".repeat(size - 5)));
+        // `<g/>` is written with three bytes more; refused text and unlisted elements count.
+        texts.push(format!("<s><g/><f>{}</f></s>", "x".repeat(more - 7)));
+        texts.push(format!("<s><f>{}</f>></s>", "x".repeat(more - 4)));
+        texts.push(format!("<u><f>{}</f> </u>", "x".repeat(more - 1)));
+        texts.push(format!("<s><T/><f>{}</f></s>", "x".repeat(more - 7)));
+    }
+    for length in [31, 32, 33] {
+        let name = "n".repeat(length);
+        texts.push(f(&format!("<{name}></{name}>")));
+        texts.push(f(&format!("<{name}/>")));
+        texts.push(format!("<s><k><p>{name}</p></k></s>"));
+    }
+    for byte in 0..=255u8 {
+        let with = |before: &[u8], after: &[u8]| [before, &[byte], after].concat();
+        for text in [with(b"<s><f>a", b"b</f></s>"), with(b"<s><f><a", b"/></f></s>"), with(b"<s><f><", b"/></f></s>"), with(b"<s><k><p>1", b"</p></k></s>"), with(b"<s>", b"</s>"), with(b"", b"<s/>")] {
+            c.ask_each_output(KEYS.as_bytes(), Call::Found { version: &text });
+        }
+    }
+    for text in &texts {
+        let archive = found(c, KEYS, text);
+        add(c, KEYS, &small, text);
+        if !archive.is_empty() {
+            read_all(c, KEYS, &archive, &[0, 1, 2], &["/s/f"]);
+        }
+        // The same text as an archive's: a version's limits hold there too.
+        let as_archive = format!("<T t=\"1\">{text}</T>").replace("<a/>", "<a></a>").replace("<g/>", "<g></g>");
+        read_all(c, KEYS, as_archive.as_bytes(), &[1], &["/s"]);
+    }
+}
+
+fn numbers_of_versions(c: &mut Comparison) {
+    let version = |number: usize| match number % 7 {
+        0 => "<s/>".to_string(),
+        1 | 2 => f(&(number % 5).to_string()),
+        3 => format!("<s><k><p>{}</p></k><f/></s>", number % 3),
+        _ => format!("<s><k><p>1</p><v>{}</v></k></s>", number % 2),
+    };
+    let addresses = ["/s", "/s/f", "/s/k[p=\"1\"]/v", "/s/k[p=\"0\"]"];
+    let mut shelf = Shelf::found(KEYS.as_bytes(), version(1).as_bytes()).expect("a legal version");
+    for number in 2..=1_000 {
+        let text = version(number);
+        // Each version is put on the shelf; some are added to the shelf's archive, the last refused.
+        if [2, 3, 10, 63, 64, 65, 66, 100, 128, 129, 500, 998, 999, 1_000].contains(&number) {
+            let archive = shelf.archive();
+            let call = Call::Add { archive: &archive, version: text.as_bytes() };
+            let added = c.ask_each_output(KEYS.as_bytes(), call);
+            shelf.add(text.as_bytes()).expect("a legal version");
+            if added.number == 0 {
+                c.shelf_gives(KEYS.as_bytes(), call, &added.bytes, &shelf.archive());
+                read_all(c, KEYS, &added.bytes, &[1, number - 1, number], &addresses);
+            }
+            if number == 999 {
+                read_all(c, KEYS, &added.bytes, &[62, 63, 64, 65, 127, 128, 129, 512, 1_000, 1 << 32], &[]);
+            }
+        } else {
+            shelf.add(text.as_bytes()).expect("a legal version");
+        }
+    }
+    for set in ["1-998", "1-999", "1-1000", "1-9999", "1-4294967297", "1-18446744073709551617", "999", "0-1", "1", "1-2", "2"] {
+        let archive = format!("<T t=\"{set}\"><s></s></T>");
+        read_all(c, KEYS, archive.as_bytes(), &[0, 1, 2, 998, 999, 1_000], &["/s", "/s/f"]);
+        add(c, KEYS, archive.as_bytes(), "<s/>");
+        add(c, KEYS, archive.as_bytes(), &f(""));
+    }
+}
+
+fn shelf_of(versions: &[String]) -> Vec<u8> {
+    let mut shelf = Shelf::found(KEYS.as_bytes(), versions[0].as_bytes()).expect("a legal version");
+    versions[1..].iter().for_each(|version| shelf.add(version.as_bytes()).expect("a legal version"));
+    shelf.archive()
+}
+
+fn sizes_of_archives(c: &mut Comparison) {
+    let content = |name: &str, count: usize| f(&format!("<{name}/>").repeat(count));
+    let two = [content("a", 510), content("b", 500)];
+    let archive = shelf_of(&two);
+    for third in [11, 12, 13] {
+        let version = content("c", third);
+        add(c, KEYS, &archive, &version);
+        let three = shelf_of(&[two[0].clone(), two[1].clone(), version]);
+        read_all(c, KEYS, &three, &[0, 1, 2, 3, 4], &["/s/f", "/s/g"]);
+        add(c, KEYS, &three, &two[0]);
+        add(c, KEYS, &three, "<s/>");
+        add(c, KEYS, &three, "<s><g/></s>");
+        add(c, KEYS, &three, &f(""));
+        add(c, KEYS, &three, &f("x"));
+    }
+    // Versions that are over a version's limits, in an archive that is within its own.
+    for count in [509, 510, 511, 1_021, 1_022, 1_023] {
+        let one = format!("<T t=\"1\"><s><f>{}</f></s></T>", "<a></a>".repeat(count));
+        let bare = format!("<T t=\"1-2\"><s><f>{}</f><T t=\"2\"><g></g></T></s></T>", "<a></a>".repeat(count));
+        read_all(c, KEYS, one.as_bytes(), &[1], &["/s"]);
+        read_all(c, KEYS, bare.as_bytes(), &[1, 2], &["/s"]);
+    }
+    for size in [16_383, 16_384, 16_385] {
+        let content = "x".repeat(size - f("").len());
+        let one = format!("<T t=\"1\"><s><f>{content}</f></s></T>");
+        let two = format!("<T t=\"1-2\"><s><f><T t=\"1\"></T><T t=\"2\">{content}</T></f></s></T>");
+        let other = format!("<T t=\"1-2\"><s><f>{}</f><T t=\"2\"><g></g></T></s></T>", &content[7..]);
+        for archive in [one, two, other] {
+            read_all(c, KEYS, archive.as_bytes(), &[1, 2], &["/s"]);
+            add(c, KEYS, archive.as_bytes(), "<s/>");
+        }
+    }
+    let three = |third: usize| vec![f(&"x".repeat(16_000)), f(&"y".repeat(16_000)), f(&"z".repeat(third))];
+    let exact = 32_768 - (shelf_of(&three(1)).len() - 1);
+    let archive = shelf_of(&three(1)[..2]);
+    for third in [exact - 1, exact, exact + 1] {
+        add(c, KEYS, &archive, &three(third)[2]);
+        let full = shelf_of(&three(third));
+        read_all(c, KEYS, &full, &[0, 1, 2, 3, 4], &["/s/f", "/s/g", "bad"]);
+        add(c, KEYS, &full, "<s/>");
+        add(c, KEYS, &full, &three(third)[2]);
+        read_all(c, "bad", &full, &[1], &["/s"]);
+    }
+    for size in [32_767, 32_768, 32_769] {
+        read_all(c, KEYS, &vec![b' '; size], &[1], &["/s"]);
+        read_all(c, KEYS, &b"<T t=\"1\">".repeat(size / 9 + 1)[..size], &[1], &["/s"]);
+        read_all(c, KEYS, &b"<s>".repeat(size / 3 + 1)[..size], &[1], &["/s"]);
+        read_all(c, KEYS, &[b"<T t=\"".to_vec(), b"1,".repeat(size / 2)].concat()[..size], &[1], &["/s"]);
+    }
+}
+
+/// Archives of one or two versions, legal and near it.
+fn archives(c: &mut Comparison) {
+    let outermost = ["1", "2", "1-2", "01", "1-1", "1,2", "2-1", "0", "0-1", "1-3", "", "1 ", " 1", "1-", "-1", "1--2", "1,", "1-2,", "1-02", "a", "1-2-3"];
+    for set in outermost {
+        for inside in ["<s></s>", "<s/>", "<s> </s>", "", "<s></s><s></s>", "<T t=\"1\"><s></s></T>", "<s><T t=\"2\"><f></f></T></s>", "<t></t>"] {
+            read_all(c, KEYS, format!("<T t=\"{set}\">{inside}</T>").as_bytes(), &[1, 2], &["/s"]);
+        }
+    }
+    for text in ["<T t='1'><s></s></T>", "<T  t=\"1\"><s></s></T>", "<T t=\"1\" ><s></s></T>", "<T t = \"1\"><s></s></T>", "<T><s></s></T>", "<T t=\"1\"><s></s></T >", "<T t=\"1\"><s></T></s>", "<T t=\"1\"><s></s></T></T>", "<T t=\"1\"><s></s>", "<T t=\"1\"", "<T t=\"", "<s></s>", "<T t=\"1\"><s></s></T>\n", "\n<T t=\"1\"><s></s></T>", "<T t=\"1\"><s></s></T><s></s>", "<T t=\"1\"></T><s></s>", "<T t=\"1\"/>"] {
+        read_all(c, KEYS, text.as_bytes(), &[1, 2], &["/s"]);
+    }
+    let insides = [
+        "<f></f>", "<f>x</f>", "<f><T t=\"1\">x</T><T t=\"2\">y</T></f>", "<f><T t=\"1\"></T><T t=\"2\">y</T></f>", "<f><T t=\"1\">x</T><T t=\"2\"></T></f>", "<f><T t=\"2\">x</T><T t=\"1\">y</T></f>", "<f><T t=\"1\">x</T><T t=\"2\">x</T></f>",
+        "<f><T t=\"1-2\">x</T></f>", "<f><T t=\"1\">x</T></f>", "<f><T t=\"1-2\">x</T><T t=\"2\">y</T></f>", "<f><T t=\"1\">x</T><T t=\"2-3\">y</T></f>", "<f>x<T t=\"2\">y</T></f>", "<f><T t=\"1\">x</T>y</f>", "<f><a><T t=\"1\">x</T><T t=\"2\">y</T></a></f>",
+        "<f><T t=\"1\"><a></a></T><T t=\"2\"><a></a>x</T></f>", "<f><T t=\"1\"><a/></T><T t=\"2\">x</T></f>", "<f><T t=\"1\"> </T><T t=\"2\"></T></f>", "<f> <T t=\"1\">x</T><T t=\"2\">y</T></f>", "<f><T t=\"1\"><T t=\"1\">x</T></T><T t=\"2\">y</T></f>",
+        "<T t=\"1\"><f></f></T>", "<T t=\"2\"><f></f></T>", "<T t=\"1-2\"><f></f></T>", "<T t=\"1,2\"><f></f></T>", "<T t=\"3\"><f></f></T>", "<T t=\"\"><f></f></T>", "<T t=\"2\"></T>", "<T t=\"2\">x</T>", "<T t=\"1\"><f></f></T><T t=\"2\"><f></f></T>",
+        "<T t=\"1\"><f>x</f></T><T t=\"2\"><f>y</f></T>", "<f></f><T t=\"2\"><f></f></T>", "<T t=\"2\"><f></f><g></g></T>", "<T t=\"2\"><f></f></T><T t=\"2\"><g></g></T>", "<T t=\"2\"><g></g></T><f></f>", "<T t=\"2\"><T t=\"2\"><f></f></T></T>", "<T t=\"2\"><f><T t=\"2\">x</T></f></T>",
+        "<g></g><f></f>", "<f></f><g></g>", "<f></f><f></f>", "<u></u>", "<f>></f>", "<f>&gt;</f>", "<f>&quot;</f>", "<f>\"</f>", "<f>]]&gt;</f>", "<f>]]></f>", "<f>&amp;lt;</f>", "<f>&</f>", "<f>\n</f>", "<f>\x7f</f>", "<f><T></T></f>", "<f></f> ", "x",
+        "<k><p>1</p></k>", "<k><p>1</p></k><k><p>2</p></k>", "<k><p>2</p></k><k><p>1</p></k>", "<k><p>10</p></k><k><p>2</p></k>", "<k><p>1</p></k><k><p>1</p></k>", "<k></k>", "<k><p></p></k>", "<k><p>1</p><p>1</p></k>", "<k><v></v><p>1</p></k>", "<k><p>1</p><v></v></k>",
+        "<k><p><T t=\"1\">1</T><T t=\"2\">2</T></p></k>", "<k><T t=\"1\"><p>1</p></T></k>", "<k><p>1</p><T t=\"1\"><v></v></T></k>", "<T t=\"2\"><k><p>1</p><v></v></k></T>", "<T t=\"2\"><k><p>1</p><T t=\"2\"><v></v></T></k></T>", "<T t=\"1\"><k><p>1</p></k></T><T t=\"2\"><k><p>1</p></k></T>",
+        "<T t=\"1\"><k><p>1</p></k></T><T t=\"2\"><k><p>2</p></k></T>", "<T t=\"2\"><k><p>1</p></k></T><T t=\"1\"><k><p>2</p></k></T>", "<T t=\"2\"><k><p>1</p><T t=\"1\"><v></v></T></k></T>", "<T t=\"1\"><k><p>1</p></k><k><p>2</p></k></T>",
+    ];
+    for inside in insides {
+        for set in ["1", "1-2", "1-3"] {
+            let archive = format!("<T t=\"{set}\"><s>{inside}</s></T>");
+            read_all(c, KEYS, archive.as_bytes(), &[1, 2], &["/s/f", "/s/k[p=\"1\"]", "/s/k[p=\"1\"]/v"]);
+            add(c, KEYS, archive.as_bytes(), "<s><k><p>1</p><v>x</v></k></s>");
+        }
+    }
+}
+
+fn addresses(c: &mut Comparison) {
+    let keys = "(/, (s, {}))\n(/s, (f, {}))\n(/s, (k, {q, p}))\n(/s/k, (v, {}))\n";
+    let archive = found(c, keys, "<s><f><a/></f><k><p>2</p><q>1</q><v/></k></s>");
+    let addresses = [
+        "", "/", "s", "//s", "/s", "/s/", "/s ", " /s", "/S", "/t", "/T", "/s[]", "/s/f", "/s/f/", "/s/f/a", "/s/f[q=\"1\"]", "/s/s", "/f", "/s/k", "/s/k[]", "/s/k[q=\"1\" and p=\"2\"]", "/s/k[q=\"2\" and p=\"1\"]", "/s/k[p=\"2\" and q=\"1\"]", "/s/k[q=\"1\"]",
+        "/s/k[p=\"2\"]", "/s/k[q=\"1\" and q=\"1\"]", "/s/k[q=\"1\" and p=\"2\" and p=\"2\"]", "/s/k[q=\"1\"and p=\"2\"]", "/s/k[q=\"1\"  and p=\"2\"]", "/s/k[q=\"1\" AND p=\"2\"]", "/s/k[q = \"1\" and p=\"2\"]", "/s/k[q='1' and p='2']", "/s/k[q=\"1\"][p=\"2\"]",
+        "/s/k[q=\"\" and p=\"2\"]", "/s/k[q=\"a b\" and p=\"2\"]", "/s/k[q=\"&lt;\" and p=\"2\"]", "/s/k[q=\"1\" and p=\"2\"] ", "/s/k[q=\"1\" and p=\"2\"", "/s/k[q=\"1\" and p=\"2]", "/s/k[q=\"1\" and p=\"2\"]/v", "/s/k[q=\"1\" and p=\"2\"]/p", "/s/k[q=\"1\" and p=\"2\"]/q",
+        "/s/k[q=\"1\" and p=\"2\"]/w", "/s/k[q=\"1\" and p=\"2\"]/p/a", "/s/k[q=\"1\" and p=\"3\"]/v", "/s/k[q=\"-\" and p=\"._\"]", "/s/k/v", "s/f", "/s\\f", "/s/f\n", "/s/k[q=\"1/2\" and p=\"2\"]", "/s/k[q=\"1]\" and p=\"2\"]", "/s/k[\"1\" and p=\"2\"]", "/s/k[q=1 and p=2]",
+    ];
+    read_all(c, keys, &archive, &[], &addresses);
+    read_all(c, keys, b"<T t=\"1-2\"><s></s></T>", &[], &addresses);
+    // Eight steps of which seven have four key names would not fit into a key list; two do.
+    let name = |letter: &str, length: usize| letter.repeat(length);
+    let keys_of = |length: usize| format!("{}, {}, {}, {}", name("b", length), name("c", length), name("d", length), name("e", length));
+    let a = name("a", 32);
+    let keys = format!("(/, (r, {{}}))\n(/r, ({a}, {{{}}}))\n(/r/{a}, ({a}, {{{}}}))\n(/r/{a}/{a}, (x, {{}}))\n", keys_of(32), keys_of(32));
+    let element = |value: &str, inside: &str| {
+        let key = |letter: &str| format!("<{0}>{value}</{0}>", name(letter, 32));
+        format!("<{a}>{}{}{}{}{inside}</{a}>", key("b"), key("c"), key("d"), key("e"))
+    };
+    for length in [1, 31, 32, 33] {
+        let value = "v".repeat(length);
+        let held = "v".repeat(length.min(32));
+        let archive = found(c, &keys, &format!("<r>{}</r>", element(&held, &element(&held, "<x/>"))));
+        let condition = |letter: &str| format!("{}=\"{value}\"", name(letter, 32));
+        let step = format!("{a}[{} and {} and {} and {}]", condition("b"), condition("c"), condition("d"), condition("e"));
+        for address in [format!("/r/{step}"), format!("/r/{step}/{step}"), format!("/r/{step}/{step}/x"), format!("/r/{step}/{step}/{}", name("b", 32)), format!("/r/{step}/{step}/{step}")] {
+            read_all(c, &keys, &archive, &[], &[&address, &address[1..], &address[..address.len() - 1]]);
+        }
+    }
+    // Eight steps and nine.
+    let (mut keys, mut path) = ("(/, (s, {}))\n".to_string(), "/s".to_string());
+    for _ in 2..=8 {
+        keys += &format!("({path}, (c, {{}}))\n");
+        path += "/c";
+    }
+    let archive = found(c, &keys, "<s><c><c><c><c><c><c><c>x</c></c></c></c></c></c></c></s>");
+    read_all(c, &keys, &archive, &[1], &[&path, &path[..path.len() - 2], &(path.clone() + "/c"), &path.replace("/s", "/c")]);
+    for size in [2_559, 2_560, 2_561] {
+        for byte in ["/", "a", " ", "\"", "["] {
+            let address = byte.repeat(size);
+            let slashed = "/s".to_string() + &address[2..];
+            read_all(c, &keys, &archive, &[], &[&address, &slashed]);
+            read_all(c, &keys, b"bad", &[], &[&address]);
+        }
+    }
+}

@@ -1,0 +1,279 @@
+//! Rounds of calls: lists with a shelf beside them, and single calls on damaged texts.
+
+use crate::addresses;
+use crate::archives;
+use crate::comparison::Comparison;
+use crate::keylists::{self, Keys, Line};
+use crate::random::Random;
+use crate::station::Call;
+use crate::versions::{self, Tree};
+use reference::shelf::Shelf;
+
+/// What a list has come to: the archive, the shelf, and the versions' trees (for addresses and
+/// as models of later versions; they may not tell what is on the shelf exactly).
+struct Standing {
+    archive: Vec<u8>,
+    shelf: Shelf,
+    trees: Vec<Tree>,
+}
+
+/// One round: a random key list, near-legal texts, a list of calls, near-legal archives.
+pub fn round(c: &mut Comparison, r: &mut Random) {
+    match r.below(200) {
+        0..=7 => return heavy(c, r),
+        8 => return long(c, r),
+        _ => (),
+    }
+    let keys = keylists::legal(r);
+    c.ask(r, &keys.text, Call::CheckKeys);
+    for _ in 0..2 {
+        let damaged = keylists::damaged(r, &keys);
+        c.ask(r, &damaged, Call::CheckKeys);
+    }
+    let model = versions::legal(r, &keys);
+    for _ in 0..6 {
+        let version = versions::damaged(r, &keys, &model);
+        c.ask(r, &keys.text, Call::Found { version: &version });
+    }
+    let Some(standing) = list(c, r, &keys, model) else { return };
+    for _ in 0..12 {
+        near(c, r, &keys, &standing);
+    }
+}
+
+/// A list of calls: the founding, adds and steps back, refused ones between them, then retrievals
+/// and histories. After each call that was not refused, the result is measured against the shelf.
+fn list(c: &mut Comparison, r: &mut Random, keys: &Keys, model: Tree) -> Option<Standing> {
+    let text = versions::spelled(r, keys, &model);
+    let call = Call::Found { version: &text };
+    let founded = c.ask(r, &keys.text, call);
+    if founded.number != 0 {
+        return None;
+    }
+    let shelf = Shelf::found(&keys.text, &text).expect("a founding that succeeded");
+    c.shelf_gives(&keys.text, call, &founded.bytes, &shelf.archive());
+    let mut standing = Standing { archive: founded.bytes, shelf, trees: vec![model] };
+    for _ in 0..r.choose(&[0, 2, 4, 8, 12]) {
+        match r.below(20) {
+            0..=12 => {
+                let earlier = r.pick(&standing.trees).clone();
+                let latest = standing.trees.last().unwrap();
+                let tree = match r.below(8) {
+                    0 => versions::legal(r, keys),
+                    1 => earlier,
+                    2 => versions::varied(r, keys, &earlier),
+                    3 => latest.clone(),
+                    _ => versions::varied(r, keys, latest),
+                };
+                let text = versions::spelled(r, keys, &tree);
+                add(c, r, keys, &mut standing, text, tree);
+            }
+            13 | 14 => {
+                let tree = standing.trees.last().unwrap().clone();
+                let text = versions::damaged(r, keys, &tree);
+                add(c, r, keys, &mut standing, text, tree);
+            }
+            15..=17 => {
+                let i = 1 + r.below(standing.shelf.count());
+                back(c, r, keys, &mut standing, i);
+            }
+            _ => {
+                let i = any_number(r, standing.shelf.count());
+                back(c, r, keys, &mut standing, i);
+            }
+        }
+    }
+    read_back(c, r, keys, &standing);
+    Some(standing)
+}
+
+/// A number that may not be in 1 to n.
+fn any_number(r: &mut Random, n: usize) -> usize {
+    r.choose(&[0, 1, n, n + 1, n + 2, 64, 999, 1_000, 1 << 32, (1 << 32) + 1, usize::MAX])
+}
+
+fn add(c: &mut Comparison, r: &mut Random, keys: &Keys, standing: &mut Standing, text: Vec<u8>, tree: Tree) -> u32 {
+    let call = Call::Add { archive: &standing.archive, version: &text };
+    let added = c.ask(r, &keys.text, call);
+    if added.number == 0 {
+        standing.shelf.add(&text).expect("an add that succeeded");
+        c.shelf_gives(&keys.text, call, &added.bytes, &standing.shelf.archive());
+        standing.archive = added.bytes;
+        standing.trees.push(tree);
+    }
+    added.number
+}
+
+fn back(c: &mut Comparison, r: &mut Random, keys: &Keys, standing: &mut Standing, i: usize) {
+    let call = Call::Back { archive: &standing.archive, i };
+    let stepped = c.ask(r, &keys.text, call);
+    if stepped.number == 0 {
+        standing.shelf.back(i);
+        c.shelf_gives(&keys.text, call, &stepped.bytes, &standing.shelf.archive());
+        standing.archive = stepped.bytes;
+        standing.trees.truncate(i);
+    }
+}
+
+/// Retrievals and histories of what stands.
+fn read_back(c: &mut Comparison, r: &mut Random, keys: &Keys, standing: &Standing) {
+    let archive = &standing.archive;
+    let n = standing.shelf.count();
+    for _ in 0..3 {
+        let i = 1 + r.below(n);
+        let call = Call::Retrieve { archive, i };
+        let retrieved = c.ask(r, &keys.text, call);
+        c.shelf_gives(&keys.text, call, &retrieved.bytes, &standing.shelf.written(i));
+    }
+    let i = any_number(r, n);
+    c.ask(r, &keys.text, Call::Retrieve { archive, i });
+    for _ in 0..5 {
+        let tree = r.pick(&standing.trees);
+        let address = if r.chance(70) { addresses::held(r, keys, tree) } else { addresses::listed(r, keys) };
+        let call = Call::History { archive, address: &address };
+        let history = c.ask(r, &keys.text, call);
+        if let Ok(shelfs) = standing.shelf.history(&address) {
+            c.shelf_gives(&keys.text, call, &history.bytes, &shelfs);
+        }
+        if r.chance(60) {
+            let address = addresses::damaged(r, keys, &address);
+            c.ask(r, &keys.text, Call::History { archive, address: &address });
+        }
+    }
+}
+
+/// One call with a near-legal archive, now and then with other damaged texts beside it.
+fn near(c: &mut Comparison, r: &mut Random, keys: &Keys, standing: &Standing) {
+    let n = standing.shelf.count();
+    let archive = if r.chance(96) { archives::damaged(r, &standing.archive, n) } else { standing.archive.clone() };
+    let key_list = if r.chance(96) { keys.text.clone() } else { keylists::damaged(r, keys) };
+    let i = if r.chance(80) { 1 + r.below(n) } else { any_number(r, n) };
+    let tree = r.pick(&standing.trees);
+    match r.below(4) {
+        0 => {
+            let version = if r.chance(90) { versions::spelled(r, keys, tree) } else { versions::damaged(r, keys, tree) };
+            c.ask(r, &key_list, Call::Add { archive: &archive, version: &version });
+        }
+        1 => {
+            c.ask(r, &key_list, Call::Retrieve { archive: &archive, i });
+        }
+        2 => {
+            let mut address = addresses::held(r, keys, tree);
+            if r.chance(20) {
+                address = addresses::damaged(r, keys, &address);
+            }
+            c.ask(r, &key_list, Call::History { archive: &archive, address: &address });
+        }
+        _ => {
+            c.ask(r, &key_list, Call::Back { archive: &archive, i });
+        }
+    }
+}
+
+fn line(context: &str, name: &str, keys: &[&str]) -> Line {
+    Line { context: context.into(), name: name.into(), keys: keys.iter().map(|key| key.to_string()).collect() }
+}
+
+/// A small key list whose root always can have a frontier.
+fn small_keys() -> Keys {
+    Keys::of(vec![line("/", "s", &[]), line("/s", "f", &[]), line("/s", "k", &["p"]), line("/s/k", "v", &[])])
+}
+
+/// `<s><f>…</f></s>` with a content.
+fn version_f(content: &str) -> Vec<u8> {
+    format!("<s><f>{content}</f></s>").into_bytes()
+}
+
+/// Large contents, until a result is over 1,024 nodes or 32,768 bytes; then results of exactly
+/// that size and of one more.
+fn heavy(c: &mut Comparison, r: &mut Random) {
+    let keys = small_keys();
+    let tree = versions::legal(r, &keys);
+    let text = version_f("");
+    let call = Call::Found { version: &text };
+    let founded = c.ask(r, &keys.text, call);
+    let shelf = Shelf::found(&keys.text, &text).unwrap();
+    c.shelf_gives(&keys.text, call, &founded.bytes, &shelf.archive());
+    let mut standing = Standing { archive: founded.bytes, shelf, trees: vec![tree] };
+    let by_nodes = r.chance(50);
+    for number in 0..8 {
+        let mut tree = versions::legal(r, &keys);
+        let name = format!("h{number}");
+        let filled = if by_nodes {
+            let wanted = r.choose(&[100, 300, 500, 511, 512, 513]);
+            versions::fill_nodes(r, &keys, &mut tree, wanted, &name)
+        } else {
+            let wanted = r.choose(&[4_000, 9_000, 16_000, 16_384, 16_385]);
+            versions::fill_length(r, &keys, &mut tree, wanted, b'a' + number)
+        };
+        if !filled {
+            continue;
+        }
+        let text = versions::spelled(r, &keys, &tree);
+        if add(c, r, &keys, &mut standing, text, tree) == 13 && r.chance(30) {
+            break;
+        }
+    }
+    // A new content of so many nodes, or bytes, that the archive is exactly full or one over.
+    for over in [1usize, 0] {
+        let text = if by_nodes {
+            let nodes = standing.shelf.archive_nodes();
+            version_f(&"<g/>".repeat((1_024 + over).saturating_sub(nodes).min(510)))
+        } else {
+            let mut with_one = standing.archive.clone();
+            let one = reference::add(&keys.text, &with_one, &version_f("!"), usize::MAX, reference::WORK_CELLS);
+            if one.number == 0 {
+                with_one = one.bytes;
+            }
+            version_f(&"!".repeat((32_768 + 1 + over).saturating_sub(with_one.len()).min(16_300)))
+        };
+        let tree = standing.trees[0].clone();
+        add(c, r, &keys, &mut standing, text, tree);
+    }
+    read_back(c, r, &keys, &standing);
+    for _ in 0..3 {
+        near(c, r, &keys, &standing);
+    }
+    let i = 1 + r.below(standing.shelf.count());
+    back(c, r, &keys, &mut standing, i);
+}
+
+/// Many versions, up to 999: timestamps of more than one word.
+fn long(c: &mut Comparison, r: &mut Random) {
+    let wanted = 1 + r.below(6);
+    let keys = keylists::sized(r, wanted);
+    let mut trees = vec![versions::legal(r, &keys)];
+    for _ in 0..4 {
+        let tree = versions::varied(r, &keys, trees.last().unwrap());
+        trees.push(tree);
+    }
+    let n = r.choose(&[63, 64, 65, 66, 70, 100, 127, 128, 129, 130, 200, 300, 998, 999]);
+    let mut shelf = None;
+    let mut kept = vec![];
+    for _ in 0..n {
+        let tree = r.pick(&trees).clone();
+        let text = versions::spelled(r, &keys, &tree);
+        match &mut shelf {
+            None => shelf = Shelf::found(&keys.text, &text).ok(),
+            Some(shelf) => shelf.add(&text).expect("a legal version"),
+        }
+        kept.push(tree);
+    }
+    let Some(shelf) = shelf else { return };
+    let mut standing = Standing { archive: shelf.archive(), shelf, trees: kept };
+    if standing.archive.len() > 32_768 || standing.shelf.archive_nodes() > 1_024 {
+        return;
+    }
+    for _ in 0..2 {
+        let tree = r.pick(&trees).clone();
+        let text = versions::spelled(r, &keys, &tree);
+        add(c, r, &keys, &mut standing, text, tree);
+    }
+    read_back(c, r, &keys, &standing);
+    for _ in 0..3 {
+        near(c, r, &keys, &standing);
+    }
+    let i = 1 + r.below(standing.shelf.count());
+    back(c, r, &keys, &mut standing, i);
+    read_back(c, r, &keys, &standing);
+}

@@ -1,0 +1,56 @@
+//! The versions standing: the shelf that demand 3 measures the archive against.
+
+use crate::keys::KeyList;
+use crate::version::{self, Element};
+use crate::{address, archive, Outcome};
+
+/// A plain list of received versions, numbered from 1, under a key list.
+pub struct Shelf {
+    keys: KeyList,
+    versions: Vec<Element>,
+}
+
+impl Shelf {
+    /// Begins with a founding that succeeded.
+    pub fn found(keys: &[u8], version: &[u8]) -> Outcome<Shelf> {
+        let keys = KeyList::read(keys)?;
+        let versions = vec![version::read(&keys, version)?];
+        Ok(Shelf { keys, versions })
+    }
+
+    /// An add that succeeded puts the version received at the end.
+    pub fn add(&mut self, version: &[u8]) -> Outcome<()> {
+        self.versions.push(version::read(&self.keys, version)?);
+        Ok(())
+    }
+
+    /// A step back to i that succeeded keeps the first i.
+    pub fn back(&mut self, i: usize) {
+        self.versions.truncate(i);
+    }
+
+    pub fn count(&self) -> usize {
+        self.versions.len()
+    }
+
+    /// The archive of the shelf's versions.
+    pub fn archive(&self) -> Vec<u8> {
+        archive::archive(&self.keys, &self.versions).bytes
+    }
+
+    /// The archive's nodes.
+    pub fn archive_nodes(&self) -> usize {
+        archive::archive(&self.keys, &self.versions).nodes
+    }
+
+    /// The written form of version i.
+    pub fn written(&self, i: usize) -> Vec<u8> {
+        version::written(&self.keys, &self.versions[i - 1]).bytes
+    }
+
+    /// The text of the set of numbers whose versions hold the address.
+    pub fn history(&self, address: &[u8]) -> Outcome<Vec<u8>> {
+        let address = address::read(&self.keys, address)?;
+        Ok(address::history(&self.keys, &self.versions, &address))
+    }
+}

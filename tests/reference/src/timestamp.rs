@@ -1,0 +1,44 @@
+//! Timestamps and their text.
+
+use crate::keys::split;
+use crate::VERSIONS;
+
+/// A set of the numbers 1 to 999, ascending.
+pub type Timestamp = Vec<usize>;
+
+/// Ascending maximal runs: `1-3,5`. Empty for the empty set.
+pub fn text(set: &Timestamp) -> Vec<u8> {
+    let mut runs: Vec<(usize, usize)> = vec![];
+    for &number in set {
+        match runs.last_mut() {
+            Some((_, last)) if *last + 1 == number => *last = number,
+            _ => runs.push((number, number)),
+        }
+    }
+    let run = |(first, last): (usize, usize)| if first == last { format!("{first}") } else { format!("{first}-{last}") };
+    runs.into_iter().map(run).collect::<Vec<String>>().join(",").into_bytes()
+}
+
+/// The set that a text gives: a number belongs to it when one of its runs holds that number.
+/// None if the text is not of numbers 1 to 999; that it is written exactly as above is not asked.
+pub fn read(text: &[u8]) -> Option<Timestamp> {
+    let mut belongs = [false; VERSIONS + 1];
+    for run in split(text, b",") {
+        let ends: Option<Vec<usize>> = split(&run, b"-").iter().map(|digits| number(digits)).collect();
+        let ends = ends?;
+        if ends.len() > 2 {
+            return None;
+        }
+        (ends[0]..=ends[ends.len() - 1]).for_each(|number| belongs[number] = true);
+    }
+    Some((1..=VERSIONS).filter(|&number| belongs[number]).collect())
+}
+
+/// A number 1 to 999 in one to three digits.
+fn number(digits: &[u8]) -> Option<usize> {
+    if !(1..=3).contains(&digits.len()) || !digits.iter().all(u8::is_ascii_digit) {
+        return None;
+    }
+    let number = digits.iter().fold(0, |number, digit| number * 10 + usize::from(digit - b'0'));
+    (number >= 1).then_some(number)
+}
