@@ -27,6 +27,14 @@ pub mod Places
 pub mod PlaceLaws
 pub mod PartLaws
 pub mod TableLaws
+pub mod Notation
+pub mod SpellLaws
+pub mod NotationLaws
+pub mod Rows
+pub mod LineScans
+pub mod LineRead
+pub mod Added
+pub mod Loading
 pub mod Walks
 pub mod Measure
 pub mod MeasureLaws

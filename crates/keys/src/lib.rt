@@ -6,6 +6,8 @@ pub mod compare;
 pub mod doubles;
 pub mod keyed;
 pub mod label;
+pub mod load;
 pub mod measure;
+pub mod notation;
 pub mod placed;
 pub mod places;

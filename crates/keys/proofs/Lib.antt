@@ -1,0 +1,17 @@
+pub mod RowLaws
+pub mod LineScanLaws
+pub mod NamesEndLaws
+pub mod LineReadLaws
+pub mod RowMade
+pub mod LineLaws
+pub mod NotationPass
+pub mod OneMore
+pub mod OneMoreLaws
+pub mod Growing
+pub mod Grown
+pub mod LineTest
+pub mod TableGrown
+pub mod LoadSteps
+pub mod LoadCells
+pub mod AddLine
+pub mod LoadWhole
