@@ -39,6 +39,16 @@ pub mod Adequate
 pub mod WalkRead
 pub mod WalkLaws
 pub mod Sizes
+pub mod Untimed
+pub mod Branches
+pub mod Fresh
+pub mod Running
+pub mod Grown
+pub mod Measured
+pub mod Going
+pub mod Small
+pub mod Layered
+pub mod SmallLaws
 pub mod Rendered
 pub mod VersionText
 pub mod Timely

@@ -1,29 +1,23 @@
 -- Laws of the functions that skip words and read a value in quotes, one a return.
 use Prim.Native.Nat.{ℕ, zero, suc, _+_, _-_, _*_, _/_, _<_, _≤_}
 use Prim.Native.Char.{code}
-use native.Mathlib.Nat.{suc-add, zero-add}
 use native.Mathlib.Omega.{arith}
 use mathlib.Core.Path.{_≡_, refl, sym, _∙_, ap, ap₂}
-use mathlib.Core.Bool.{Bool, true, false, _&&_}
+use mathlib.Core.Bool.{true, false, _&&_, and-false}
 use mathlib.Core.Option.{Option, none, some}
 use mathlib.Core.List.{[], _∷_, _++_}
 use lib.Dec.{eqb, leb}
 use lib.ListN.{length, take, drop, getD, length-append, length-drop, take-append-drop}
-use lib.Seq.{slice, take-nil, take-at, drop-drop, getD-drop}
+use lib.Seq.{slice, take-at, drop-drop, getD-drop}
 use borrow.Author.Tests.{le-leb, lt-leb, eq-eqb, ne-eqb}
 use Rattle.xml.specs.Bytes.{Bytes, bytes, same}
 use Rattle.xml.specs.BytesLaws.{same-is, same-self}
 use Rattle.xml.specs.Read.{nameRest}
+use Rattle.xml.specs.TapeLaws.{slice-part}
 use Rattle.xml.specs.Truth.{clash, both, by-test}
 use Rattle.keys.specs.AddressScan.{cut, valueOf, afterOpen, condition}
 use Rattle.keys.specs.AddressCuts.{cut-sound, cut-own, valueTest, value-yes, value-no, value-at}
 use Rattle.keys.specs.AddressParts.{endOf, from, further, opener, Skipped, QuotedRead, ValueRead}
-
--- a part of a text by its start and its length
-pub slice-take : (f m : ℕ) (s : Bytes) → slice f (f + m) s ≡ take m (drop f s)
-slice-take zero m s = rw (zero-add m) refl
-slice-take (suc f) m [] = ap (drop (suc f)) (take-nil (suc f + m)) ∙ sym (take-nil m)
-slice-take (suc f) m (x ∷ s) = rw (suc-add f m) (slice-take f m s)
 
 -- ---- what stands from a place on
 pub from-in : (s : Bytes) (at : ℕ) → at ≤ length s → from s at ≡ some (drop at s)
@@ -58,12 +52,12 @@ module _ (s : Bytes) (at : ℕ) (w : Bytes) where
     pub skip-other : at ≤ length s → same (slice at (at + k) s) w ≡ false → Skipped s at w (length s + 1)
     skip-other h f =
         none-here h
-        (λ r e. clash (sym (ap (λ z. same z w) (slice-take at k s ∙ ap (take k) e ∙ take-at w r k l) ∙ same-self w) ∙ f))
+        (λ r e. clash (sym (ap (λ z. same z w) (slice-part at k s ∙ ap (take k) e ∙ take-at w r k l) ∙ same-self w) ∙ f))
 
     pub skip-word : at + k ≤ length s → same (slice at (at + k) s) w ≡ true → Skipped s at w (at + k)
     unfolding further
     skip-word h t =
-        let p : take k (drop at s) ≡ w = sym (slice-take at k s) ∙ same-is _ w t in
+        let p : take k (drop at s) ≡ w = sym (slice-part at k s) ∙ same-is _ w t in
         let q : drop at s ≡ w ++ drop (at + k) s = sym (take-append-drop k (drop at s)) ∙ ap₂ (λ a b. a ++ b) p (drop-drop k at s) in
         record {
           within = omega arith;
@@ -100,18 +94,10 @@ module _ (s : Bytes) (at m : ℕ) (h : at ≤ length s) (e : m ≡ nameRest 33 (
   quoted-empty z = test-false (ap (λ k. leb 1 k && leb k 32 && eqb (getD (drop at s) k 0) (code "\"")) z)
 
   pub quoted-long : 32 < m → QuotedRead s at 0
-  quoted-long l = test-false (rw (lt-leb m 32 l) (and-no (leb 1 m)))
-    where
-      and-no : (b : Bool) → (b && false && eqb (getD (drop at s) m 0) (code "\"")) ≡ false
-      and-no true = refl
-      and-no false = refl
+  quoted-long l = test-false (rw (lt-leb m 32 l, and-false (leb 1 m)))
 
   pub quoted-open : (getD s (at + m) 0 ≡ code "\"" → ⊥) → QuotedRead s at 0
-  quoted-open f = test-false (rw (ne-eqb (getD (drop at s) m 0) (code "\"") (λ q. f (sym (getD-drop at s m 0) ∙ q))) (and-no (leb 1 m && leb m 32)))
-    where
-      and-no : (b : Bool) → (b && false) ≡ false
-      and-no true = refl
-      and-no false = refl
+  quoted-open f = test-false (rw (ne-eqb (getD (drop at s) m 0) (code "\"") (λ q. f (sym (getD-drop at s m 0) ∙ q))) (and-false (leb 1 m && leb m 32)))
 
   pub quoted-read : (m ≡ 0 → ⊥) → m ≤ 32 → getD s (at + m) 0 ≡ code "\"" → QuotedRead s at (at * 64 + m)
   quoted-read z l q =
@@ -122,7 +108,7 @@ module _ (s : Bytes) (at m : ℕ) (h : at ≤ length s) (e : m ≡ nameRest 33 (
       record {
         wrong = λ w. absurd (omega arith);
         right = λ w. here ∙ value-yes (drop at s) m t ∙ ap₂ (λ x y. some (x, y))
-            (sym (ap₂ (λ x y. slice x y s) a b ∙ slice-take at m s)) (drop-drop (suc m) at s ∙ ap (λ k. drop k s) (let c : at + suc m ≡ endOf (at * 64 + m) + 1 = omega arith in c));
+            (sym (ap₂ (λ x y. slice x y s) a b ∙ slice-part at m s)) (drop-drop (suc m) at s ∙ ap (λ k. drop k s) (let c : at + suc m ≡ endOf (at * 64 + m) + 1 = omega arith in c));
         inside = λ w. let i = v .inside in omega (arith, length-drop at s);
       }
 

@@ -22,7 +22,7 @@ use Rattle.keys.specs.PlaceLaws.{index-listed, place-listed, place-unlis
 use Rattle.keys.specs.AddressScan.{conditions, labelled, named, stepIn}
 use Rattle.keys.specs.AddressCuts.{run-short}
 use Rattle.keys.specs.AddressMeans.{named-listed, named-unlisted, step-slash}
-use Rattle.keys.specs.AddressSkips.{slice-take}
+use Rattle.xml.specs.TapeLaws.{slice-part}
 use Rattle.keys.specs.AddressParts.{endOf, piece, Inside, ConditionsRead, StepRead}
 use Rattle.keys.specs.declared.address.Conditions.{Conditions}
 
@@ -67,7 +67,7 @@ module _ (K : KeyList) (p : Path) (s : Bytes) (at : ℕ) (h : at < length s) whe
 
     name-is : name ≡ take m (drop (at + 1) s)
     unfolding name
-    name-is = slice-take (at + 1) m s
+    name-is = slice-part (at + 1) m s
 
     pub step-unlisted : rulesKept K ≡ true → {q : ℕ} (place : ℕ) (values : List ℕ) → q ≡ placeOf K (p ▸ slice (at + 1) (at + 1 + m) s) → q ≡ 129
         → StepRead K p s at (record { next = 0; name = 0; place = place; values = values })

@@ -7,6 +7,7 @@ use Rattle.xml.specs.Truth.{bool-by, by-test}
 use Rattle.xml.specs.Forest.{Forest, end, elem, text, stamp}
 use Rattle.keys.specs.KeyList.{Path, KeyList, above, rulesKept}
 use Rattle.keys.specs.Version.{Label, label, before, dropWhite, misplaced, unkeyed, doubled, insertBy, ordered}
+use Rattle.keys.specs.Sorting.{Elems}
 use Rattle.keys.specs.Choice.{Choice, nobody, chosen, isAfter, better}
 use Rattle.keys.specs.ChoiceLaws.{before-trans, better-yes, better-no}
 
@@ -21,12 +22,6 @@ pub record Sound (K : KeyList) (p : Path) (f : Forest) : Type 0 where
   pub placed : misplaced K p (dropWhite K p f) ≡ false
   pub keyed : unkeyed K p f ≡ false
   pub single : doubled K p f ≡ false
-
-abbrev pub Elems : Forest → Type 0
-Elems end = Unit {0}
-Elems (text b r) = ⊥
-Elems (elem n k r) = Elems r
-Elems (stamp t k r) = ⊥
 
 abbrev pub headOf : Forest → Choice
 headOf end = nobody

@@ -5,13 +5,14 @@ use mathlib.Core.Option.{Option, some}
 use mathlib.Core.Ordering.{Ordering, lt, eq, gt}
 use Rattle.xml.specs.Bytes.{Bytes}
 use Rattle.xml.specs.Forest.{Forest, end, elem, text, stamp}
-use Rattle.model.specs.Keyed.{Tree, nil, node, flip, flop, Before, Ascending}
+use Rattle.model.specs.Keyed.{Tree, nil, node, flop, Before, Ascending}
 use Rattle.model.specs.Orders.{labels, isEq, isLt}
 use Rattle.model.specs.Masks.{clash}
 use Rattle.xml.specs.Truth.{bool-by, and-false}
 use Rattle.keys.specs.KeyList.{Path, KeyList, above}
 use Rattle.keys.specs.Version.{_▸_, Label, label, sameLabel, before, find, isSome, doubled, insertBy, ordered}
 use Rattle.keys.specs.Tree.{Content, keyed}
+use Rattle.keys.specs.ChoiceLaws.{before-turn}
 use Rattle.keys.specs.Sorting.{ordered-elem}
 use Rattle.keys.specs.TreeParts.{kidsOf, keyed-elem, three-false}
 
@@ -27,15 +28,6 @@ Rising (node l c k r) = NotAfter l r × Rising k × Rising r
 rising-kids : (b : Bool) (t : Tree Label Content) → (b ≡ true → Rising t) → Rising (kidsOf b t)
 rising-kids true t h = h refl
 rising-kids false t h = tt
-
-before-turn : (a b : Label) → before a b ≡ true → before b a ≡ false
-unfolding before
-before-turn a b e = go (labels .cmp a b) refl e
-  where
-    go : (o : Ordering) → labels .cmp a b ≡ o → isLt o ≡ true → isLt (labels .cmp b a) ≡ false
-    go lt p e = ap isLt (flip labels p)
-    go eq p e = absurd (clash e refl)
-    go gt p e = absurd (clash e refl)
 
 module _ (K : KeyList) where
   rising-elem : (p : Path) (n : Bytes) (k r : Forest) → NotAfter (label K p n k) (keyed K p r) → (above K (p ▸ n) ≡ true → Rising (keyed K (p ▸ n) k)) → Rising (keyed K p r)

@@ -7,8 +7,9 @@ use mathlib.Core.Option.{Option, none, some}
 use mathlib.Core.List.{List}
 use lib.ListN.{length, getD}
 use Rattle.xml.specs.Bytes.{Bytes}
-use Rattle.xml.specs.Forest.{Forest, end, elem, text, stamp, join}
+use Rattle.xml.specs.Forest.{Forest, end, elem, join}
 use Rattle.xml.specs.Complete.{join-end, join-assoc}
+use Rattle.xml.specs.Held.{size-join}
 use Rattle.xml.specs.Tape.{nextAt, Node, Tape, at-end, size}
 use Rattle.xml.specs.TapeLaws.{tape-le, tape-size, tape-join, tape-one, tape-same}
 use Rattle.keys.specs.KeyList.{Path, KeyList, above}
@@ -63,13 +64,6 @@ pub record ElementBuilt (keyText : Bytes) (table : List ℕ) (n place : ℕ) (sr
   pub kept : Below out m left
   pub tape : OfPlace keyText table n place
       (λ K q. (b : Bytes) (k : Forest) → Node src cells p 1 b → Tape src cells (p + 1) (nextAt cells p) k → Tape src left m r (elem b (arranged K (q ▸ b) k) end))
-
-size-join : (f g : Forest) → size (join f g) ≡ size f + size g
-unfolding size join
-size-join end g = omega arith
-size-join (text b r) g = omega (arith, size-join r g)
-size-join (elem n k r) g = omega (arith, size-join r g)
-size-join (stamp t k r) g = omega (arith, size-join r g)
 
 size-next : (d : Forest) (n : Bytes) (k r : Forest) → size (join d (elem n k r)) ≡ size d + (1 + size k + size r)
 unfolding size

@@ -10,16 +10,12 @@ use Rattle.model.specs.Keyed.{flop, self}
 use Rattle.model.specs.Orders.{labels, isLt}
 use Rattle.keys.specs.KeyList.{Path, KeyList}
 use Rattle.keys.specs.Version.{Label, label, before}
+use Rattle.keys.specs.Sorting.{is-lt}
 use Rattle.keys.specs.Choice.{Choice, nobody, chosen, isAfter, labelOf, better, leastAbove, joined, stays, takes, Each, Chose}
 
 pub before-trans : (a b c : Label) → before a b ≡ true → before b c ≡ true → before a c ≡ true
 unfolding before
-before-trans a b c e f = ap isLt (labels .trans (is (labels .cmp a b) e) (is (labels .cmp b c) f))
-  where
-    is : (o : Ordering) → isLt o ≡ true → o ≡ lt
-    is lt e = refl
-    is eq e = clash (sym e)
-    is gt e = clash (sym e)
+before-trans a b c e f = ap isLt (labels .trans (is-lt (labels .cmp a b) e) (is-lt (labels .cmp b c) f))
 
 -- what comes before a label comes before each that does not come before that
 before-over : (a b c : Label) → before a b ≡ true → before c b ≡ false → before a c ≡ true

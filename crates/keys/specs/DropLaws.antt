@@ -4,7 +4,7 @@ use mathlib.Core.Bool.{Bool, true, false, not, _&&_, _||_}
 use mathlib.Core.List.{List, [], _∷_}
 use Rattle.xml.specs.Bytes.{Bytes, any, all, same, isWhite}
 use Rattle.xml.specs.BytesLaws.{same-is, same-self}
-use Rattle.xml.specs.Truth.{bool-by, or-first, or-second}
+use Rattle.xml.specs.Truth.{by-test, or-first, or-second}
 use Rattle.xml.specs.Forest.{Forest, end, elem, text, stamp}
 use Rattle.keys.specs.KeyList.{Path, KeyList, above, keyNamesAt, rulesKept}
 use Rattle.keys.specs.KeyListLaws.{beneath, key-frontier}
@@ -27,17 +27,16 @@ over-text μ true b r e = refl
 over-text μ false b r e = e
 
 module _ (K : KeyList) (rules : rulesKept K ≡ true) where
-  called-drop : (p : Path) (key : Bytes) (f : Forest) → any (same key) (keyNamesAt K p) ≡ true → called key (dropWhite K p f) ≡ called key f
+  pub called-drop : (p : Path) (key : Bytes) (f : Forest) → any (same key) (keyNamesAt K p) ≡ true → called key (dropWhite K p f) ≡ called key f
   unfolding called dropWhite
   called-drop p key end m = refl
   called-drop p key (text b r) m = over-text (called key) (above K p && all isWhite b) b (dropWhite K p r) refl ∙ called-drop p key r m
   called-drop p key (stamp t k r) m = called-drop p key r m
   called-drop p key (elem n k r) m =
       let i = called-drop p key r m in
-      bool-by (λ x. same key n ≡ x → _≡_ {A = List Forest} (elim x as (λ _. List Forest) [ true ↦ dropWhite K (p ▸ n) k ∷ called key (dropWhite K p r) | false ↦ called key (dropWhite K p r) ])
-      (elim x as (λ _. List Forest) [ true ↦ k ∷ called key r | false ↦ called key r ])) (same key n)
-      (λ _ e. ap₂ _∷_ (front-drop K (p ▸ n) k (ap (λ (z : Bytes). above K (p ▸ z)) (sym (same-is key n e)) ∙ key-frontier K p key rules m)) i)
-      (λ _ e. i) refl
+      by-test (same key n)
+      (λ e. rw (e, called) (ap₂ _∷_ (front-drop K (p ▸ n) k (ap (λ (z : Bytes). above K (p ▸ z)) (sym (same-is key n e)) ∙ key-frontier K p key rules m)) i))
+      (λ e. rw (e, called) i)
 
   -- of all key names
   drop-each : (p : Path) (f : Forest) (ns : List Bytes) → ((n : Bytes) → any (same n) ns ≡ true → any (same n) (keyNamesAt K p) ≡ true)

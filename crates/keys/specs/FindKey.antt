@@ -5,25 +5,27 @@ use mathlib.Core.Path.{_≡_, refl, sym, _∙_, ap}
 use mathlib.Core.Bool.{true, false}
 use mathlib.Core.List.{List, [], _∷_}
 use Rattle.xml.specs.Bytes.{Bytes, same, isValue}
-use Rattle.xml.specs.BytesLaws.{same-is}
 use Rattle.xml.specs.Truth.{clash}
-use Rattle.xml.specs.Forest.{Forest, text}
+use Rattle.xml.specs.Forest.{Forest}
 use Rattle.xml.specs.Tape.{headAt, nextAt, Node, Tape, at-end, at-text, at-elem, at-stamp}
-use Rattle.xml.specs.TapeLaws.{bytesAt, tape-le, tape-none}
+use Rattle.xml.specs.TapeLaws.{bytesAt, Front, front, tape-le}
 use Rattle.keys.specs.Version.{called, isKeyValue, isOneValue, runIn, valueIn}
-use Rattle.keys.specs.KeyValues.{value-plain}
+use Rattle.keys.specs.Values.{value-plain}
+use Rattle.keys.specs.Walks.{Going, going-done, parted, going-past, going-over}
 
--- the first of the nodes lo to hi that is an element of the name, or hi; with what the elements of the name hold
-pub data KeyAt (src cells : List ℕ) (key : Bytes) (lo hi : ℕ) : ℕ → List Forest → Type 0 where
-  nowhere : {r : ℕ} → r ≡ hi → KeyAt src cells key lo hi r []
-  there : {r : ℕ} {k : Forest} {ks : List Forest} → lo ≤ r → r < hi → Node src cells r 1 key → Tape src cells (r + 1) (nextAt cells r) k
-      → KeyAt src cells key lo hi r (k ∷ ks)
-
--- a search on its way: the nodes p to q are left, and hold all elements of the name
-pub record KeyLeft (src cells : List ℕ) (key : Bytes) (p q : ℕ) (all : List Forest) : Type 0 where
+-- of the siblings up to hi, the element r is the first of those of the name, which hold fs
+pub record Child (src cells : List ℕ) (key : Bytes) (hi r : ℕ) (fs : List Forest) : Type 0 where
+  pub front : Front src cells r hi
+  pub kids : Forest
   pub rest : Forest
-  pub tape : Tape src cells p q rest
-  pub is : all ≡ called key rest
+  pub inside : Tape src cells (r + 1) (nextAt cells r) kids
+  pub after : Tape src cells (nextAt cells r) hi rest
+  pub are : fs ≡ kids ∷ called key rest
+
+-- that element; or hi, where there is none
+pub data KeyAt (src cells : List ℕ) (key : Bytes) (hi r : ℕ) (fs : List Forest) : Type 0 where
+  nowhere : r ≡ hi → fs ≡ [] → KeyAt src cells key hi r fs
+  there : Child src cells key hi r fs → KeyAt src cells key hi r fs
 
 module _ {src cells : List ℕ} where
   -- the value of a key child is the bytes of its one run of text
@@ -37,43 +39,49 @@ module _ {src cells : List ℕ} where
   held-value (at-text n u e (at-elem m i t)) h = clash (sym h)
   held-value (at-text n u e (at-stamp m i t)) h = clash (sym h)
 
+-- ---- a search on its way: the nodes p to q are left, and hold all elements of the name
+module _ {src cells : List ℕ} (key : Bytes) {p q : ℕ} {fs : List Forest} (x : Going src cells p q fs (called key)) (l : p < q) where
+  pub key-over : (headAt cells p % 4 ≡ 1 → ⊥) → Going src cells (nextAt cells p) q fs (called key)
+  unfolding called
+  key-over = going-over (called key) (λ b r. refl) (λ t k r. refl) x l
+
+  pub key-past : headAt cells p % 4 ≡ 1 → same key (bytesAt src cells p) ≡ false → Going src cells (nextAt cells p) q fs (called key)
+  unfolding called
+  key-past k s = let y = parted (x .tape) l k in going-past (called key) x y (rw (sym (ap (same key) (y .node .bytes-are)) ∙ s, called))
+
+  pub key-here : headAt cells p % 4 ≡ 1 → same key (bytesAt src cells p) ≡ true → KeyAt src cells key q p fs
+  unfolding called
+  key-here k s =
+      let y = parted (x .tape) l k in
+      there (record {
+        front = front (x .tape) l;
+        kids = y .kids;
+        rest = y .rest;
+        inside = y .inner;
+        after = y .after;
+        are = x .same ∙ ap (called key) (y .is) ∙ rw (sym (ap (same key) (y .node .bytes-are)) ∙ s, called);
+      })
+
 module _ {src cells : List ℕ} {key : Bytes} where
-  pub key-start : {p q : ℕ} {f : Forest} → Tape src cells p q f → KeyLeft src cells key p q (called key f)
-  key-start {f = f} t = record { rest = f; tape = t; is = refl }
-
-  called-other : {p q : ℕ} {f : Forest} → Tape src cells p q f → p < q → (headAt cells p % 4 ≡ 1 → same key (bytesAt src cells p) ≡ false)
-      → KeyLeft src cells key (nextAt cells p) q (called key f)
+  pub key-none : {p q : ℕ} {fs : List Forest} → Going src cells p q fs (called key) → q ≤ p → KeyAt src cells key q p fs
   unfolding called
-  called-other (at-end e) l h = absurd (omega arith)
-  called-other (at-text {r = r} n u e t) l h = record { rest = r; tape = rw e t; is = refl }
-  called-other (at-elem {r = r} n i t) l h = record { rest = r; tape = t; is = rw (sym (ap (same key) (n .bytes-are)) ∙ h (n .kind-is), called) }
-  called-other (at-stamp {r = r} n i t) l h = record { rest = r; tape = t; is = refl }
+  key-none x l = nowhere (omega (arith, tape-le (x .tape))) (going-done x l)
 
-  pub key-skip : {p q : ℕ} {fs : List Forest} → KeyLeft src cells key p q fs → p < q → (headAt cells p % 4 ≡ 1 → same key (bytesAt src cells p) ≡ false)
-      → KeyLeft src cells key (nextAt cells p) q fs
-  key-skip x l h = let y = called-other (x .tape) l h in record { rest = y .rest; tape = y .tape; is = x .is ∙ y .is }
+  -- ---- what it found
+  module _ {hi r : ℕ} {fs : List Forest} where
+    pub called-none : KeyAt src cells key hi r fs → r ≡ hi → fs ≡ []
+    called-none (nowhere e n) h = n
+    called-none (there c) h = absurd (omega (arith, c .front .forward, c .front .inside))
 
-  called-here : {lo p q : ℕ} {f : Forest} → Tape src cells p q f → p < q → headAt cells p % 4 ≡ 1 → same key (bytesAt src cells p) ≡ true → lo ≤ p
-      → KeyAt src cells key lo q p (called key f)
-  unfolding called
-  called-here (at-end e) l k s o = absurd (omega arith)
-  called-here (at-text n u e t) l k s o = absurd (omega (arith, n .kind-is))
-  called-here {p = p} (at-elem n i t) l k s o =
-      rw (sym (ap (same key) (n .bytes-are)) ∙ s, called) (there o l (rw (same-is key (bytesAt src cells p) s ∙ n .bytes-are) n) i)
-  called-here (at-stamp n i t) l k s o = absurd (omega (arith, n .kind-is))
+    pub called-some : KeyAt src cells key hi r fs → (r ≡ hi → ⊥) → Child src cells key hi r fs
+    called-some (nowhere e n) h = absurd (h e)
+    called-some (there c) h = c
 
-  pub key-here : {lo p q : ℕ} {fs : List Forest} → KeyLeft src cells key p q fs → p < q → headAt cells p % 4 ≡ 1 → same key (bytesAt src cells p) ≡ true
-      → lo ≤ p → KeyAt src cells key lo q p fs
-  key-here x l k s o = rw (x .is) (called-here (x .tape) l k s o)
-
-  pub key-none : {lo p q : ℕ} {fs : List Forest} → KeyLeft src cells key p q fs → q ≤ p → KeyAt src cells key lo q p fs
-  unfolding called
-  key-none {p = p} {q = q} x l =
-      let e : p ≡ q = omega (arith, tape-le (x .tape)) in
-      rw (x .is, tape-none (rw e at (x .tape))) (nowhere e)
-
-  pub key-value : {lo hi r : ℕ} {fs : List Forest} → KeyAt src cells key lo hi r fs → isOneValue fs ≡ true → Node src cells (r + 1) 0 (valueIn fs)
-  unfolding isOneValue valueIn
-  key-value (nowhere e) h = clash (sym h)
-  key-value (there {ks = []} a b n t) h = held-value t h
-  key-value (there {ks = g ∷ gs} a b n t) h = clash (sym h)
+    pub key-value : KeyAt src cells key hi r fs → isOneValue fs ≡ true → Node src cells (r + 1) 0 (valueIn fs)
+    unfolding isOneValue valueIn
+    key-value (nowhere e n) h = clash (sym h ∙ ap isOneValue n)
+    key-value (there c) h = rw (c .are) (only (called key (c .rest)) (rw (c .are) at h))
+      where
+        only : (gs : List Forest) → isOneValue (c .kids ∷ gs) ≡ true → Node src cells (r + 1) 0 (valueIn (c .kids ∷ gs))
+        only [] o = held-value (c .inside) o
+        only (g ∷ gs) o = clash (sym o)

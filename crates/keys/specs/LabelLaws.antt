@@ -1,18 +1,17 @@
 -- Laws of comparing labels: names first, then key values one by one.
-use Prim.Native.Nat.{ℕ, zero, suc, _+_, _<_, _≤_}
-use native.Mathlib.Nat.{not-suc-le-zero, le-of-suc-le-suc}
+use Prim.Native.Nat.{ℕ, _+_, _<_, _≤_}
 use native.Mathlib.Numerals.{add-one}
 use native.Mathlib.Omega.{arith}
 use mathlib.Core.Path.{_≡_, refl, sym, _∙_, ap}
-use mathlib.Core.Bool.{Bool, true, false}
-use mathlib.Core.List.{List, [], _∷_}
+use mathlib.Core.Bool.{true, false}
+use mathlib.Core.List.{List, []}
 use mathlib.Core.Ordering.{Ordering, lt, eq, gt}
 use lib.Dec.{ltb}
 use lib.ListN.{length, getD, drop}
 use lib.Seq.{slice, drop-cons, drop-length}
 use borrow.Author.Tests.{ltb-true, ltb-false}
-use Rattle.xml.specs.Bytes.{Bytes, all}
-use Rattle.xml.specs.Truth.{by-test, and-left, and-right}
+use Rattle.xml.specs.Bytes.{Bytes}
+use Rattle.xml.specs.Truth.{by-test, all-mem}
 use Rattle.xml.specs.Forest.{Forest}
 use Rattle.xml.specs.Tape.{Node, Tape}
 use Rattle.xml.specs.TapeLaws.{tape-one}
@@ -20,16 +19,11 @@ use Rattle.model.specs.Orders.{next, cmpL, numbers, lists, labels, isEq}
 use Rattle.keys.specs.KeyList.{Path, KeyList, keyNamesAt}
 use Rattle.keys.specs.Version.{_▸_, Label, called, isOneValue, valueIn, label, sameLabel}
 use Rattle.keys.specs.Table.{placeOf, nameStart, nameEnd, Table}
+use Rattle.keys.specs.PlaceLaws.{mem-at}
 use Rattle.keys.specs.TableLaws.{table-bare, table-key-path, table-key-name}
 use Rattle.keys.specs.Ranks.{rank, rank-eq, rank-not, compareBytes}
 use Rattle.keys.specs.FindKey.{KeyAt, key-value}
 use Rattle.keys.specs.Labelled.{valuesOf, KeyedAt}
-
-all-at : {A : Type 0} (f : A → Bool) (l : List A) (d : A) (j : ℕ) → all f l ≡ true → j < length l → f (getD l j d) ≡ true
-unfolding all
-all-at f [] d j e h = absurd (not-suc-le-zero h)
-all-at f (x ∷ l) d zero e h = and-left (f x) (all f l) e
-all-at f (x ∷ l) d (suc j) e h = all-at f l d j (and-right (f x) (all f l) e) (le-of-suc-le-suc h)
 
 next-not : (o p : Ordering) → (rank o ≡ 1 → ⊥) → next o p ≡ o
 next-not lt p h = refl
@@ -59,10 +53,10 @@ module _ {text : Bytes} {table : List ℕ} {n own : ℕ} {src cells : List ℕ} 
   held-once : isOneValue (called (keyBytes text table (own + 1 + i)) (g .kids)) ≡ true
   held-once =
       rw (key-name-is (g .tabled) (g .path) own (g .place-is) i l)
-      (all-at (λ key. isOneValue (called key (g .kids))) (keyNamesAt (g .keyList) (g .path)) [] i (g .once) l)
+      (all-mem (λ key. isOneValue (called key (g .kids))) (mem-at (keyNamesAt (g .keyList) (g .path)) i l) (g .once))
 
   -- the value of key i, where the search for its child ended
-  pub value-node : (x : ℕ) → ((f : Forest) → Tape src cells lo hi f → KeyAt src cells (keyBytes text table (own + 1 + i)) lo hi x (called (keyBytes text table (own + 1 + i)) f))
+  pub value-node : (x : ℕ) → ((f : Forest) → Tape src cells lo hi f → KeyAt src cells (keyBytes text table (own + 1 + i)) hi x (called (keyBytes text table (own + 1 + i)) f))
       → (f : Forest) → Tape src cells lo hi f → Node src cells (x + 1) 0 (valueIn (called (keyBytes text table (own + 1 + i)) f))
   value-node x a f h = key-value (a f h) (rw (tape-one h (g .tape)) held-once)
 

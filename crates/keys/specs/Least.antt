@@ -8,13 +8,13 @@ use Rattle.xml.specs.Forest.{Forest, end, elem, text, stamp}
 use Rattle.model.specs.Orders.{isLt}
 use Rattle.keys.specs.KeyList.{Path, KeyList, above, keyNamesAt, rulesKept}
 use Rattle.keys.specs.Version.{_▸_, Label, label, before, dropWhite, misplaced, unkeyed, doubled, insertBy, ordered}
-use Rattle.keys.specs.Sorting.{First, misplaced-kids, misplaced-rest, ordered-elem, sorted}
+use Rattle.keys.specs.Sorting.{Elems, First, misplaced-kids, misplaced-rest, ordered-elem, sorted}
 use Rattle.keys.specs.SortedKeys.{sorted-label, keyed-here, keyed-kids, keyed-rest}
 use Rattle.keys.specs.SortedOnce.{Rising, sorted-rising, single-kids, single-rest}
 use Rattle.keys.specs.DropLaws.{label-drop, unkeyed-drop, doubled-drop}
 use Rattle.keys.specs.Choice.{Choice, nobody, chosen, isAfter, better, leastAbove, Each, Chose}
 use Rattle.keys.specs.ChoiceLaws.{before-trans, before-self, before-turn, better-yes, better-no, least-elem, least-past, least-each}
-use Rattle.keys.specs.Arranged.{arranged, Sound, Elems, headOf, upper, upper-keeps, upper-drops, upper-elems, upper-insert, upper-below, head-insert, after-trans}
+use Rattle.keys.specs.Arranged.{arranged, Sound, headOf, upper, upper-keeps, upper-drops, upper-elems, upper-insert, upper-below, head-insert, after-trans}
 use Rattle.keys.specs.Labelled.{hasKeys}
 
 -- ---- siblings that ascend

@@ -25,8 +25,8 @@ pub mod KeyFound
 pub mod TreeLaws
 pub mod Places
 pub mod PlaceLaws
-pub mod PartLaws
 pub mod TableLaws
+pub mod PartLaws
 pub mod Notation
 pub mod SpellLaws
 pub mod NotationLaws
@@ -44,7 +44,6 @@ pub mod Values
 pub mod KeyChild
 pub mod KeyNames
 pub mod Ranks
-pub mod KeyValues
 pub mod FindKey
 pub mod Labelled
 pub mod LabelLaws

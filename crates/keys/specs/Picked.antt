@@ -15,7 +15,7 @@ use Rattle.keys.specs.KeyList.{Path, KeyList}
 use Rattle.keys.specs.Version.{Label, label, before}
 use Rattle.keys.specs.Placed.{OfPlace}
 use Rattle.keys.specs.Ranks.{rank}
-use Rattle.keys.specs.Doubles.{Parted}
+use Rattle.keys.specs.Walks.{Parted}
 use Rattle.keys.specs.Choice.{Choice, nobody, chosen, isAfter, labelOf, leastAbove, joined, stays, takes}
 use Rattle.keys.specs.ChoiceLaws.{step-taken, step-left, step-end, step-start}
 

@@ -43,7 +43,7 @@ index-first (p ∷ l) q (suc i) h e f =
     rw (not-so (samePath q p) (λ s. f 0 (omega arith) (sym (samePath-is q p s))), indexIn)
     (ap suc (index-first l q i (le-of-suc-le-suc h) e (λ j k. f (suc j) (omega arith))))
 
-pub mem-at : (l : List Path) (i : ℕ) → i < length l → List·Memᴰ (getD l i []) l
+pub mem-at : {A : Type 0} (l : List (List A)) (i : ℕ) → i < length l → List·Memᴰ (getD l i []) l
 mem-at [] i h = absurd (not-suc-le-zero h)
 mem-at (p ∷ l) zero h = List·Memᴰ·head refl
 mem-at (p ∷ l) (suc i) h = List·Memᴰ·tail (mem-at l i (le-of-suc-le-suc h))

@@ -31,13 +31,13 @@ pub data Sorting (K : KeyList) : Path → Forest → Forest → Type 0 where
       → Sorting K p (elem n k r) t
 
 -- siblings that are all elements
-abbrev Elems : Forest → Type 0
+abbrev pub Elems : Forest → Type 0
 Elems end = Unit {0}
 Elems (text b r) = ⊥
 Elems (elem n k r) = Elems r
 Elems (stamp t k r) = ⊥
 
-is-lt : (o : Ordering) → isLt o ≡ true → o ≡ lt
+pub is-lt : (o : Ordering) → isLt o ≡ true → o ≡ lt
 is-lt lt e = refl
 is-lt eq e = clash (sym e)
 is-lt gt e = clash (sym e)

@@ -3,28 +3,18 @@ use Prim.Native.Nat.{ℕ, _%_, _<_}
 use native.Mathlib.Omega.{arith}
 use lib.Dec.{eqb}
 use borrow.Author.Tests.{eq-eqb, ne-eqb}
-use mathlib.Core.Path.{_≡_, refl, ap, ap₂, sym, _∙_, subst}
-use mathlib.Core.Bool.{Bool, true, false, not, _&&_, _||_}
-use mathlib.Core.List.{List, _∷_}
+use mathlib.Core.Path.{_≡_, refl, ap, sym, _∙_}
+use mathlib.Core.Bool.{Bool, true, false, not, _&&_, _||_, or-false, or-assoc}
+use mathlib.Core.List.{List}
 use Rattle.xml.specs.Bytes.{Bytes, bytes, all, same, isWhite}
-use Rattle.xml.specs.BytesLaws.{same-is}
 use Rattle.xml.specs.Truth.{bool-by, by-test, or-first}
 use Rattle.xml.specs.Forest.{Forest, end, elem, text, stamp, join}
 use Rattle.xml.specs.Tape.{headAt, nextAt, Tape, at-end, at-text, at-elem, at-stamp}
 use Rattle.xml.specs.TapeLaws.{tape-none}
 use Rattle.keys.specs.KeyList.{Path, KeyList, above, listed, keyNamesAt, rulesKept}
-use Rattle.keys.specs.KeyListLaws.{beneath}
 use Rattle.keys.specs.Table.{placeOf}
 use Rattle.keys.specs.PlaceLaws.{few-paths, place-below, place-unlisted}
 use Rattle.keys.specs.Version.{_▸_, dropWhite, misplaced, called, isOneValue, unkeyed}
-
-or-assoc : (a b c : Bool) → (a || (b || c)) ≡ ((a || b) || c)
-or-assoc true b c = refl
-or-assoc false b c = refl
-
-or-none : (a : Bool) → (a || false) ≡ a
-or-none true = refl
-or-none false = refl
 
 -- a path not in the list, refused text, or the name `T`
 unfoldable pub astray : KeyList → Path → Forest → Bool
@@ -58,16 +48,16 @@ module _ (K : KeyList) where
   unfolding misplaced join
   misplaced-join p end g = refl
   misplaced-join p (elem n k r) g =
-      rw (misplaced-join p r g) (or-assoc (same n (bytes "T") || above K p && not (listed K (p ▸ n)) || misplaced K (p ▸ n) k) (misplaced K p r) (misplaced K p g))
+      rw (misplaced-join p r g) (sym (or-assoc (same n (bytes "T") || above K p && not (listed K (p ▸ n)) || misplaced K (p ▸ n) k) (misplaced K p r) (misplaced K p g)))
   misplaced-join p (stamp t k r) g = refl
-  misplaced-join p (text b r) g = rw (misplaced-join p r g) (or-assoc (above K p) (misplaced K p r) (misplaced K p g))
+  misplaced-join p (text b r) g = rw (misplaced-join p r g) (sym (or-assoc (above K p) (misplaced K p r) (misplaced K p g)))
 
   unkeyed-join : (p : Path) (f g : Forest) → unkeyed K p (join f g) ≡ (unkeyed K p f || unkeyed K p g)
   unfolding unkeyed join
   unkeyed-join p end g = refl
   unkeyed-join p (elem n k r) g =
       rw (unkeyed-join p r g)
-      (or-assoc (not (all (λ key. isOneValue (called key k)) (keyNamesAt K (p ▸ n))) || unkeyed K (p ▸ n) k) (unkeyed K p r) (unkeyed K p g))
+      (sym (or-assoc (not (all (λ key. isOneValue (called key k)) (keyNamesAt K (p ▸ n))) || unkeyed K (p ▸ n) k) (unkeyed K p r) (unkeyed K p g)))
   unkeyed-join p (stamp t k r) g = unkeyed-join p r g
   unkeyed-join p (text b r) g = unkeyed-join p r g
 
@@ -91,7 +81,7 @@ module _ (K : KeyList) where
 
   astray-elem : (p : Path) (n : Bytes) (k : Forest) → astray K p (elem n k end) ≡ (strange K p n || astray K (p ▸ n) k)
   unfolding astray strange dropWhite misplaced
-  astray-elem p n k = or-none (strange K p n || astray K (p ▸ n) k)
+  astray-elem p n k = or-false (strange K p n || astray K (p ▸ n) k)
 
   astray-stamp : (p : Path) (t : Bytes) (k : Forest) → astray K p (stamp t k end) ≡ true
   unfolding astray dropWhite misplaced
@@ -159,7 +149,7 @@ module _ (K : KeyList) where
 
   keyless-elem : (p : Path) (n : Bytes) (k : Forest) → keyless K p (elem n k end) ≡ (lacking K (p ▸ n) k || keyless K (p ▸ n) k)
   unfolding keyless lacking dropWhite unkeyed
-  keyless-elem p n k = or-none (lacking K (p ▸ n) k || keyless K (p ▸ n) k)
+  keyless-elem p n k = or-false (lacking K (p ▸ n) k || keyless K (p ▸ n) k)
 
   keyless-stamp : (p : Path) (t : Bytes) (k : Forest) → keyless K p (stamp t k end) ≡ false
   unfolding keyless dropWhite unkeyed
@@ -187,24 +177,3 @@ module _ (K : KeyList) where
 
     pub keyless-past : keyless K p f ≡ false → keyless K p (join f g) ≡ keyless K p g
     keyless-past h = keyless-join p f g ∙ rw h
-
-  -- ---- key children are at a frontier, and nothing is dropped in them
-  drop-front : (p : Path) (f : Forest) → above K p ≡ false → dropWhite K p f ≡ f
-  unfolding dropWhite
-  drop-front p end a = refl
-  drop-front p (elem n k r) a = ap₂ (elem n) (drop-front (p ▸ n) k (beneath K p n a)) (drop-front p r a)
-  drop-front p (stamp t k r) a = ap₂ (stamp t) (drop-front p k a) (drop-front p r a)
-  drop-front p (text b r) a = rw (a, dropWhite) (ap (text b) (drop-front p r a))
-
-  pub called-drop : (p : Path) (key : Bytes) (f : Forest) → above K (p ▸ key) ≡ false → called key (dropWhite K p f) ≡ called key f
-  unfolding called dropWhite
-  called-drop p key end a = refl
-  called-drop p key (stamp t k r) a = called-drop p key r a
-  called-drop p key (text b r) a =
-      let i = called-drop p key r a in
-      bool-by (λ x. called key (elim x as (λ _. Forest) [ true ↦ dropWhite K p r | false ↦ text b (dropWhite K p r) ]) ≡ called key r) (above K p && all isWhite b) (λ _. i) (λ _. i)
-  called-drop p key (elem m k r) a =
-      let i = called-drop p key r a in
-      by-test (same key m)
-      (λ e. rw (e, called) (ap₂ (λ x y. x ∷ y) (subst (λ z. dropWhite K (p ▸ z) k ≡ k) (same-is key m e) (drop-front (p ▸ key) k a)) i))
-      (λ e. rw (e, called) i)

@@ -2,7 +2,7 @@
 use Prim.Native.Nat.{ℕ, _+_, _-_, _<_, _≤_}
 use Prim.Native.Char.{code}
 use mathlib.Core.Path.{_≡_, refl, ap, sym, _∙_}
-use mathlib.Core.Bool.{Bool, true, false, _&&_}
+use mathlib.Core.Bool.{true, false, _&&_, and-false}
 use mathlib.Core.List.{[], _∷_}
 use native.Mathlib.Numerals.{add-one}
 use native.Mathlib.Omega.{arith}
@@ -105,11 +105,12 @@ names-self (b ∷ s) h = at (reads b s) (names-self s (and-right (isNameByte b) 
 
 no-value : (s : Bytes) → all isNameByte s ≡ false → isValue s ≡ false
 unfolding isValue
-no-value s h = rw h (none (leb 1 (length s) && leb (length s) 32))
-  where
-    none : (a : Bool) → (a && false) ≡ false
-    none true = refl
-    none false = refl
+no-value s h = rw h (and-false (leb 1 (length s) && leb (length s) 32))
 
 pub value-raw : (s : Bytes) → isValue (unescape 0 s) ≡ isValue s
 value-raw s = by-test (all isNameByte s) (λ e. ap isValue (names-self s e)) (λ e. no-value (unescape 0 s) (names-raw s ∙ e) ∙ sym (no-value s e))
+
+pub value-plain : (s : Bytes) → isValue (unescape 0 s) ≡ true → unescape 0 s ≡ s
+unfolding isValue
+value-plain s e =
+    names-self s (sym (names-raw s) ∙ and-right (leb 1 (length (unescape 0 s)) && leb (length (unescape 0 s)) 32) (all isNameByte (unescape 0 s)) e)

@@ -4,8 +4,8 @@ use mathlib.Core.Path.{_≡_, refl, ap, sym, _∙_}
 use mathlib.Core.List.{List, []}
 use native.Mathlib.Omega.{arith}
 use Rattle.xml.specs.Bytes.{Bytes}
-use Rattle.xml.specs.Forest.{Forest, end, join}
-use Rattle.xml.specs.Tape.{headAt, nextAt, Tape, Valid}
+use Rattle.xml.specs.Forest.{Forest, end, elem, text, stamp, join}
+use Rattle.xml.specs.Tape.{headAt, nextAt, Node, Tape, at-end, at-text, at-elem, at-stamp, Valid}
 use Rattle.xml.specs.TapeLaws.{bytesAt, Front, front, split, inner-node, tape-le, tape-none}
 use Rattle.keys.specs.KeyList.{Path, KeyList}
 use Rattle.keys.specs.Version.{_▸_}
@@ -20,11 +20,11 @@ pub record Walk (text : Bytes) (table : List ℕ) (n place : ℕ) (src cells : L
 
 -- what it says: for whichever key list, path and forest these are
 abbrev pub OfNodes : Bytes → List ℕ → ℕ → ℕ → List ℕ → List ℕ → ℕ → ℕ → (KeyList → Path → Forest → Type 0) → Type 0
-OfNodes text table n place src cells lo hi P = OfPlace text table n place (λ K p. (f : Forest) → Tape src cells lo hi f → P K p f)
+OfNodes keyText table n place src cells lo hi P = OfPlace keyText table n place (λ K p. (f : Forest) → Tape src cells lo hi f → P K p f)
 
 -- of a version's nodes, which stand above the root
 abbrev pub OfVersion : Bytes → List ℕ → ℕ → List ℕ → List ℕ → ℕ → (KeyList → Forest → Type 0) → Type 0
-OfVersion text table n src cells count P = (K : KeyList) → Table text table n K → (f : Forest) → Tape src cells 0 count f → P K f
+OfVersion keyText table n src cells count P = (K : KeyList) → Table keyText table n K → (f : Forest) → Tape src cells 0 count f → P K f
 
 module _ {text : Bytes} {table : List ℕ} {n place : ℕ} {src cells : List ℕ} where
   pub walk-front : {p q : ℕ} → Walk text table n place src cells p q → p < q → Front src cells p q
@@ -71,6 +71,39 @@ module _ {A : Type 0} {src cells : List ℕ} {p q : ℕ} {whole : A} {of : Fores
 
 pub going-start : {A : Type 0} {src cells : List ℕ} {p q : ℕ} {f : Forest} (of : Forest → A) → Tape src cells p q f → Going src cells p q (of f) of
 going-start of h = record { rest = _; tape = h; same = refl }
+
+-- the element p is the first of the nodes: what it and the rest are
+pub record Parted (src cells : List ℕ) (p q : ℕ) (f : Forest) : Type 0 where
+  pub name : Bytes
+  pub kids : Forest
+  pub rest : Forest
+  pub node : Node src cells p 1 name
+  pub inner : Tape src cells (p + 1) (nextAt cells p) kids
+  pub after : Tape src cells (nextAt cells p) q rest
+  pub is : f ≡ elem name kids rest
+
+pub parted : {src cells : List ℕ} {p q : ℕ} {f : Forest} → Tape src cells p q f → p < q → headAt cells p % 4 ≡ 1 → Parted src cells p q f
+parted (at-end e) l k = absurd (omega arith)
+parted (at-text n u e t) l k = absurd (omega (arith, n .kind-is))
+parted (at-elem n i t) l k = record { name = _; kids = _; rest = _; node = n; inner = i; after = t; is = refl }
+parted (at-stamp n i t) l k = absurd (omega (arith, n .kind-is))
+
+module _ {A : Type 0} {src cells : List ℕ} (of : Forest → A) {p q : ℕ} {whole : A} where
+  -- by an element that decides nothing
+  pub going-past : (x : Going src cells p q whole of) (y : Parted src cells p q (x .rest)) → of (elem (y .name) (y .kids) (y .rest)) ≡ of (y .rest)
+      → Going src cells (nextAt cells p) q whole of
+  going-past x y e = record { rest = y .rest; tape = y .after; same = x .same ∙ ap of (y .is) ∙ e }
+
+  -- by a node that is none, where no such decides anything
+  pub going-over : ((b : Bytes) (r : Forest) → of (text b r) ≡ of r) → ((t : Bytes) (k r : Forest) → of (stamp t k r) ≡ of r)
+      → Going src cells p q whole of → p < q → (headAt cells p % 4 ≡ 1 → ⊥) → Going src cells (nextAt cells p) q whole of
+  going-over over past x l h = go (x .tape) (x .same)
+    where
+      go : {g : Forest} → Tape src cells p q g → whole ≡ of g → Going src cells (nextAt cells p) q whole of
+      go (at-end e) i = absurd (omega arith)
+      go (at-text {b = b} {r = r} n u e t) i = record { rest = r; tape = rw e t; same = i ∙ over b r }
+      go (at-elem n k t) i = absurd (h (n .kind-is))
+      go (at-stamp {t = m} {k = k} {r = r} n j t) i = record { rest = r; tape = t; same = i ∙ past m k r }
 
 -- the whole version, above the root
 pub walk-top : {text : Bytes} {table : List ℕ} {n count : ℕ} {src cells : List ℕ} {K : KeyList} {f : Forest} → Table text table n K → Tape src cells 0 count f

@@ -1,11 +1,11 @@
 // Addresses: read from their start, step by step, into positions in their text: an array of eight arrays of four for the key values.
 // A position is start * 64 + length.
-use crate::compare::same_bytes;
 use crate::label::find_key;
 use crate::places::child;
 use crate::places::key_count;
 use crate::places::key_name;
 use xml::class::class;
+use xml::compare::same_bytes;
 use xml::tape::view_at;
 ghost use mathlib.Core.Path.{_≡_};
 ghost use mathlib.Core.List.{[]};

@@ -1,5 +1,5 @@
 // Refusal 8: a key child that is missing, repeated or illegal. Asked once 6 does not apply.
-use crate::compare::same_bytes;
+use crate::label::find_key;
 use crate::places::child;
 use crate::places::key_count;
 use crate::places::key_name;
@@ -7,16 +7,15 @@ use xml::class::class;
 use xml::tape::view_at;
 ghost use mathlib.Core.Path.{_≡_};
 ghost use mathlib.Core.List.{[]};
-ghost use Prim.Native.Nat.{_*_, _+_, _<_, _≤_};
+ghost use Prim.Native.Nat.{_<_, _≤_};
 ghost use lib.ListN.{length};
 ghost use lib.Seq.{slice};
 ghost use Rattle.xml.specs.Bytes.{isValue};
 ghost use Rattle.xml.specs.Forest.{Forest};
-ghost use Rattle.xml.specs.Tape.{headAt, nextAt, endIn, Tape, Valid};
+ghost use Rattle.xml.specs.Tape.{nextAt, Tape, Valid};
 ghost use Rattle.keys.specs.Version.{dropWhite, unkeyed, called, isKeyValue, isOneValue};
 ghost use Rattle.keys.specs.Walks.{Walk, OfNodes, OfVersion};
 ghost use Rattle.keys.specs.Strays.{keyless, lacking};
-ghost use Rattle.keys.specs.KeyChild.{isCalled, CalledAt};
 
 // src[a..e] is a key value: 1 to 32 letters, digits, `.`, `-`, `_`.
 pub fn is_value(src: &[u8], a: usize, e: usize) -> bool
@@ -57,53 +56,17 @@ pub fn is_key_value(src: &[u8], tape: &[u32], lo: usize, hi: usize) -> bool
     is_value(src, v.start, v.end)
 }
 
-// The node p is an element with the name text[a..e].
-fn is_called(src: &[u8], tape: &[u32], p: usize, text: &[u8], a: usize, e: usize) -> bool
-    requires { ⌜ (2 * p + 1 < length (now tape)) × (endIn (headAt (now tape) p) ≤ length (now src)) × (a ≤ e) × (e ≤ length (now text)) ⌝ }
-    ensures { λ r. ⌜ r ≡ isCalled (now (src .entry)) (now (tape .entry)) p (slice a e (now (text .entry))) ⌝ }
-{
-    let v = view_at(tape, p);
-    if v.kind != 1 {
-        return false;
-    }
-    same_bytes(text, a, e, src, v.start, v.end)
-}
-
-// The first element of the siblings lo to hi that has the name text[a..e]; hi if there is none.
-pub fn find_key(
-    src: &[u8],
-    tape: &[u32],
-    lo: usize,
-    hi: usize,
-    text: &[u8],
-    a: usize,
-    e: usize,
-) -> usize
-    requires { ⌜ Valid (now src) (now tape) lo hi × (a ≤ e) × (e ≤ length (now text)) ⌝ }
-    ensures { λ r. ⌜ ((f : Forest) → Tape (now (src .entry)) (now (tape .entry)) lo hi f
-        → CalledAt (now (src .entry)) (now (tape .entry)) hi (slice a e (now (text .entry))) r (called (slice a e (now (text .entry))) f)) ⌝ }
-{
-    let mut p = lo;
-    while p < hi {
-        if is_called(src, tape, p, text, a, e) {
-            return p;
-        }
-        p = view_at(tape, p).next;
-    }
-    p
-}
-
 // Of the siblings lo to hi, just one element has the name text[a..e], and it holds a key value.
 fn has_key(src: &[u8], tape: &[u32], lo: usize, hi: usize, text: &[u8], a: usize, e: usize) -> bool
     requires { ⌜ Valid (now src) (now tape) lo hi × (a ≤ e) × (e ≤ length (now text)) ⌝ }
     ensures { λ r. ⌜ ((f : Forest) → Tape (now (src .entry)) (now (tape .entry)) lo hi f → r ≡ isOneValue (called (slice a e (now (text .entry))) f)) ⌝ }
 {
-    let p = find_key(src, tape, lo, hi, text, a, e);
+    let p = find_key(text, a, e, src, tape, lo, hi);
     if p == hi {
         return false;
     }
     let v = view_at(tape, p);
-    if find_key(src, tape, v.next, hi, text, a, e) != hi {
+    if find_key(text, a, e, src, tape, v.next, hi) != hi {
         return false;
     }
     is_key_value(src, tape, p + 1, v.next)

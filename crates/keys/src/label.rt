@@ -1,8 +1,8 @@
 // Labels: an element's name and its key values, compared with those of another, which may be of another text.
-use crate::compare::same_bytes;
 use crate::places::child;
 use crate::places::key_count;
 use crate::places::key_name;
+use xml::compare::same_bytes;
 use xml::tape::view_at;
 ghost use mathlib.Core.Path.{_≡_};
 ghost use Prim.Native.Nat.{_+_, _≤_};
@@ -55,7 +55,7 @@ pub fn find_key(
 ) -> usize
     requires { ⌜ (a ≤ e) × (e ≤ length (now text)) × Valid (now src) (now tape) lo hi ⌝ }
     ensures { λ r. ⌜ ((f : Forest) → Tape (now (src .entry)) (now (tape .entry)) lo hi f
-        → KeyAt (now (src .entry)) (now (tape .entry)) (slice a e (now (text .entry))) lo hi r (called (slice a e (now (text .entry))) f)) ⌝ }
+        → KeyAt (now (src .entry)) (now (tape .entry)) (slice a e (now (text .entry))) hi r (called (slice a e (now (text .entry))) f)) ⌝ }
 {
     let mut p = lo;
     while p < hi {

@@ -1,9 +1,9 @@
 // Refusal 6: a version that is too deep, has too many nodes, or is too long when written. One walk, which stops at the first limit that
 // is passed: so it goes down seventeen levels at most.
-use crate::compare::same_bytes;
 use crate::places::child;
 use crate::places::is_above;
 use xml::compare::is_white;
+use xml::compare::same_bytes;
 use xml::compare::text_len;
 use xml::tape::view_at;
 ghost use mathlib.Core.Path.{_≡_};

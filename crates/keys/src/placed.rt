@@ -1,8 +1,8 @@
 // Refusal 7: a path not in the list above or at a frontier, refused text, or the name `T` anywhere. Asked once 6 does not apply.
-use crate::compare::same_bytes;
 use crate::places::child;
 use crate::places::is_above;
 use xml::compare::is_white;
+use xml::compare::same_bytes;
 use xml::tape::view_at;
 ghost use mathlib.Core.Path.{_≡_};
 ghost use mathlib.Core.List.{[]};

@@ -1,5 +1,5 @@
 // Places of a key list's table: 128 stands above the root, a number below for the path of that number, 129 for a path that is not listed.
-use crate::compare::same_bytes;
+use xml::compare::same_bytes;
 ghost use mathlib.Core.Path.{_≡_};
 ghost use Prim.Native.Nat.{_+_, _*_, _<_, _≤_};
 ghost use lib.ListN.{length};

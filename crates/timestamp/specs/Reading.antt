@@ -5,12 +5,12 @@ use mathlib.Core.List.{List, [], _∷_}
 use mathlib.Core.Bool.{Bool, true, false, _&&_, _||_}
 use native.Mathlib.Omega.{arith}
 use native.Mathlib.Numerals.{add-one}
-use lib.Dec.{eqb, leb, ltb}
+use lib.Dec.{eqb, ltb}
 use lib.ListN.{length, getD, drop, drop-of-length-le}
 use lib.Seq.{drop-cons}
-use borrow.Author.Tests.{ne-eqb, ltb-true, leb-true}
+use borrow.Author.Tests.{ne-eqb, ltb-true}
 use Rattle.xml.specs.Bytes.{Bytes, isDigit, within}
-use Rattle.xml.specs.Truth.{and-left, and-right}
+use Rattle.xml.specs.Truth.{and-left}
 use Rattle.timestamp.specs.Set.{setOf, none, joined, between}
 use Rattle.timestamp.specs.Parse.{Outcome, refused, accepted, pickOutcome}
 use Rattle.timestamp.specs.declared.text.Reader.{Reader}
@@ -144,11 +144,3 @@ step-comma x b e = rw e
 pub step-other : (x : St) (b : ℕ) → isDigit b ≡ false → (b ≡ 45 → ⊥) → (b ≡ 44 → ⊥) → stepIn x b ≡ bad
 unfolding stepIn
 step-other x b e d q = rw (e, ne-eqb b 45 d, ne-eqb b 44 q)
-
-pub digit-low : (b : ℕ) → isDigit b ≡ true → 48 ≤ b
-unfolding isDigit within
-digit-low b e = leb-true 48 b (and-left (leb 48 b) (leb b 57) e)
-
-pub digit-high : (b : ℕ) → isDigit b ≡ true → b ≤ 57
-unfolding isDigit within
-digit-high b e = leb-true b 57 (and-right (leb 48 b) (leb b 57) e)

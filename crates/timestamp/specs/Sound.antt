@@ -9,12 +9,12 @@ use lib.Dec.{eqb, ltb}
 use borrow.Author.Tests.{lt-ltb, le-ltb, eq-eqb, ne-eqb, ltb-true, eqb-true}
 use Rattle.xml.specs.Bytes.{isDigit, any}
 use Rattle.xml.specs.Truth.{and-left, and-right}
-use Rattle.timestamp.specs.TimesLaws.{inRun}
+use Rattle.timestamp.specs.TimesLaws.{inRun, digit-low, digit-high}
 use Rattle.timestamp.specs.Set.{none, joined, between}
 use Rattle.timestamp.specs.Runs.{Asc, inRuns}
 use Rattle.timestamp.specs.Digits.{pick, digits, runText, tailText, text}
 use Rattle.timestamp.specs.Parse.{accepted, refused}
-use Rattle.timestamp.specs.Reading.{St, st, bad, pickS, more, opens, closes, startAt, digitIn, dashIn, closeIn, stepIn, steps, setIn, readIn, step-digit, step-dash, step-comma, step-other, digit-low, digit-high}
+use Rattle.timestamp.specs.Reading.{St, st, bad, pickS, more, opens, closes, startAt, digitIn, dashIn, closeIn, stepIn, steps, setIn, readIn, step-digit, step-dash, step-comma, step-other}
 
 -- the text of the number so far, and of the run so far, with more after it
 num : ℕ → List ℕ → List ℕ

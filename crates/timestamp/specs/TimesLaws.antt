@@ -62,9 +62,13 @@ all-from P i (suc n) m h l u = same-or i m
     (λ e. rw (← e) (and-left (P i) (all P (upFrom (suc i) n)) h))
     (λ e. all-from P (suc i) n m (and-right (P i) (all P (upFrom (suc i) n)) h) (omega (arith, e)) (omega arith))
 
-digit-from : (b : ℕ) → isDigit b ≡ true → 48 ≤ b
+pub digit-low : (b : ℕ) → isDigit b ≡ true → 48 ≤ b
 unfolding isDigit within
-digit-from b e = leb-true 48 b (and-left (leb 48 b) (leb b 57) e)
+digit-low b e = leb-true 48 b (and-left (leb 48 b) (leb b 57) e)
+
+pub digit-high : (b : ℕ) → isDigit b ≡ true → b ≤ 57
+unfolding isDigit within
+digit-high b e = leb-true b 57 (and-right (leb 48 b) (leb b 57) e)
 
 digit-times : (b : ℕ) → isDigit b ≡ true → isTimes b ≡ true
 unfolding isTimes
@@ -80,10 +84,10 @@ module _ (n : ℕ) (l : 1 ≤ n) (u : n ≤ 999) where
   digits = and-right (eqb (number (decimal n)) n) (all isDigit (decimal n)) (all-from good 1 999 n all-good l (omega arith))
 
   no-comma : Free (eqb 44) (decimal n)
-  no-comma = free-all isDigit (eqb 44) (λ b t. ne-eqb 44 b (λ e. omega (arith, digit-from b t))) (decimal n) digits
+  no-comma = free-all isDigit (eqb 44) (λ b t. ne-eqb 44 b (λ e. omega (arith, digit-low b t))) (decimal n) digits
 
   no-dash : Free (eqb 45) (decimal n)
-  no-dash = free-all isDigit (eqb 45) (λ b t. ne-eqb 45 b (λ e. omega (arith, digit-from b t))) (decimal n) digits
+  no-dash = free-all isDigit (eqb 45) (λ b t. ne-eqb 45 b (λ e. omega (arith, digit-low b t))) (decimal n) digits
 
 -- ---- one run
 unfoldable pub inRun : ℕ → ℕ × ℕ → Bool

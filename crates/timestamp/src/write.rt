@@ -1,6 +1,7 @@
 // Writing a timestamp's text. A writer is handed the whole output and the place to write at, which may lie past the output's end: it
 // writes what fits, and answers the place after all of it.
 use crate::Timestamp;
+use xml::writer::put;
 ghost use mathlib.Core.Path.{_≡_};
 ghost use mathlib.Core.List.{[], _∷_};
 ghost use Prim.Native.Nat.{_+_, _-_, _^_, _<_, _≤_, min};
@@ -10,22 +11,11 @@ ghost use Rattle.timestamp.specs.Times.{decimal, writeRun};
 ghost use Rattle.timestamp.specs.Listed.{textOf};
 ghost use Rattle.timestamp.specs.Write.{part};
 
-// Writes one byte.
-fn put(out: &mut [u8], at: usize, b: u8) -> usize
-    requires { ⌜ at < 2 ^ 63 ⌝ }
-    ensures { λ r. ⌜ Wrote (now (out .entry)) at (b ∷ []) r (now (out .exit)) ⌝ }
-{
-    if at < out.len() {
-        out[at] = b;
-    }
-    at + 1
-}
-
 fn put_digit(out: &mut [u8], at: usize, d: usize) -> usize
     requires { ⌜ (d < 10) × (at < 2 ^ 63) ⌝ }
     ensures { λ r. ⌜ Wrote (now (out .entry)) at ((48 + d) ∷ []) r (now (out .exit)) ⌝ }
 {
-    put(out, at, 48 + (d as u8))
+    put(48 + (d as u8), out, at)
 }
 
 // Writes a number in decimal.
@@ -54,7 +44,7 @@ fn put_run(out: &mut [u8], at: usize, lo: usize, hi: usize) -> usize
     if lo == hi {
         return i;
     }
-    let j = put(out, i, b'-');
+    let j = put(b'-', out, i);
     put_number(out, j, hi)
 }
 
@@ -64,7 +54,7 @@ fn put_part(out: &mut [u8], at: usize, later: bool, lo: usize, hi: usize) -> usi
     ensures { λ r. ⌜ Wrote (now (out .entry)) at (part later (lo, hi)) r (now (out .exit)) ⌝ }
 {
     if later {
-        let i = put(out, at, b',');
+        let i = put(b',', out, at);
         put_run(out, i, lo, hi)
     } else {
         put_run(out, at, lo, hi)

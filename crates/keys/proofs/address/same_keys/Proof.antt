@@ -17,7 +17,7 @@ use Rattle.keys.proofs.address.same_keys.Statement.{statement}
 use Rattle.keys.proofs.address.same_keys.Tie as tie
 use Rattle.keys.proofs.address.same_keys.Reads as reads
 use Rattle.keys.proofs.address.same_keys.Lts as lts
-use Rattle.keys.proofs.compare.same_bytes.Reads as same-bytes-reads
+use Rattle.xml.proofs.compare.same_bytes.Reads as same-bytes-reads
 use Rattle.keys.proofs.label.find_key.Reads as find-key-reads
 use Rattle.keys.proofs.places.key_count.Reads as key-count-reads
 use Rattle.keys.proofs.places.key_name.Reads as key-name-reads
@@ -106,7 +106,7 @@ same-bytes-requires c κs =
     let i = c .before .before .before .before .before .before .before .before .before .before .before .pre .inside (c .before .before .before .before .loop .j) (own-key (c .before .before .before)) in
     let h = c .before .before .before .before .before .before .before .before .before .before .before .pre .keyed in
     let w = value (c .before) (h .kids) (h .tape) .within in
-    rw (c .view-at .ensures) (omega arith, i, omega arith, w)
+    rw (c .view-at .ensures) (record { le₁ = omega arith; in₁ = i; le₂ = omega arith; in₂ = w })
 
 returns : tie.Need-returns Inv-loop μ-loop
 returns c =

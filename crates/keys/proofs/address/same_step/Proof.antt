@@ -30,7 +30,7 @@ same-bytes-requires c κs =
     let h = c .before .before .before .before .before .before .before .pre .0 in
     let a = c .before .before .before .before .before .before .before .args in
     let s = a .s .now in
-    rw (c .before .view-at .ensures) (omega arith, h .step-is .name-inside, omega arith, h .node .within)
+    rw (c .before .view-at .ensures) (record { le₁ = omega arith; in₁ = h .step-is .name-inside; le₂ = omega arith; in₂ = h .node .within })
 
 returns : tie.Need-returns
 returns c =

@@ -37,7 +37,7 @@ add-same-bytes : tie.Need-add-same-bytes
 add-same-bytes c = search needs
 
 same-bytes-requires : tie.Need-same-bytes-requires
-same-bytes-requires c κs = search needs
+same-bytes-requires c κs = record { le₁ = omega arith; in₁ = omega arith; le₂ = omega arith; in₂ = omega arith }
 
 add-result-2 : tie.Need-add-result-2
 add-result-2 c = search needs

@@ -8,7 +8,7 @@ use Rattle.xml.specs.TapeLaws.{Front, front}
 use Rattle.keys.specs.Placed.{OfPlace}
 use Rattle.keys.specs.Labelled.{Labelled}
 use Rattle.keys.specs.Checked.{Checked, checked-next, checked-here}
-use Rattle.keys.specs.Doubles.{parted}
+use Rattle.keys.specs.Walks.{parted}
 use Rattle.keys.specs.Choice.{Choice}
 use Rattle.keys.specs.Picked.{Picked, Scan, scan-start, scan-skip, scan-taken, scan-left, scan-done}
 use Rattle.keys.proofs.choose.least_after.Statement.{statement}

@@ -12,7 +12,8 @@ use Rattle.keys.specs.Version.{_▸_, label, doubled}
 use Rattle.keys.specs.Beneath.{front-single}
 use Rattle.keys.specs.Placed.{OfPlace}
 use Rattle.keys.specs.Checked.{Checked, checked-next, checked-here, checked-kids}
-use Rattle.keys.specs.Doubles.{TestLeft, parted, test-start, test-skip, test-on, test-done, isAmong, doubledAt, doubled-text, doubled-stamp, doubled-end, doubled-elem}
+use Rattle.keys.specs.Walks.{Going, going-start, going-done, parted, going-past, going-over}
+use Rattle.keys.specs.Doubles.{isAmong, doubledAt, doubled-text, doubled-stamp, doubled-end, doubled-elem}
 use Prim.Native.Nat.{ℕ, _+_, _*_, _-_, _≤_, _<_}
 use borrow.Fn.Kinds.{In}
 use borrow.Fn.PlainCycle.{Measures, is, falls, and}
@@ -54,7 +55,7 @@ abbrev doubled-in-calls : ℕ → doubled-in-lts.Claims
 doubled-in-calls t = (is-above-reads.Asked, is-above-reads.Learnt, view-at-reads.Asked, view-at-reads.Learnt, doubled-at-below t, doubled-at.Post)
 
 abbrev doubled-in-Inv-loop : doubled-in-lts.InvT-loop
-doubled-in-Inv-loop text table n place src tape lo hi p₀ p = (lo ≤ p) × Checked text table n place src tape p hi × OfPlace text table n place (λ K o. (f : Forest) → Tape src tape lo hi f → TestLeft src tape p hi (doubled K o) f)
+doubled-in-Inv-loop text table n place src tape lo hi p₀ p = (lo ≤ p) × Checked text table n place src tape p hi × OfPlace text table n place (λ K o. (f : Forest) → Tape src tape lo hi f → Going src tape p hi (doubled K o f) (doubled K o))
 
 abbrev doubled-in-μ-loop : doubled-in-lts.MeasureT-loop
 doubled-in-μ-loop text table n place src tape lo hi p₀ p = hi - p
@@ -104,7 +105,7 @@ module _ (t : ℕ) where
   doubled-in-returns c K o u e f h = sym (front-single K o f (sym (c .before .is-above .ensures (c .before .before .before .before .before .before .args .text .now) K o u e) ∙ not-true (c .before .is-above .result) (c .if1 .taken)))
 
   doubled-in-loop-holds : doubled-in-lts.Need-loop-holds (doubled-in-calls t) (doubled-in-at t) doubled-in.Post doubled-in-Inv-loop doubled-in-μ-loop
-  doubled-in-loop-holds c = (omega arith, c .before .before .before .before .before .before .pre .1, λ K o u e f h. test-start (doubled K o) h)
+  doubled-in-loop-holds c = (omega arith, c .before .before .before .before .before .before .pre .1, λ K o u e f h. going-start (doubled K o) h)
 
   doubled-in-view-at-requires : doubled-in-lts.Need-view-at-requires (doubled-in-calls t) (doubled-in-at t) doubled-in.Post doubled-in-Inv-loop doubled-in-μ-loop
   doubled-in-view-at-requires c κs = turn c .held
@@ -119,7 +120,7 @@ module _ (t : ℕ) where
       let x = c .before .before .before .before .before .before .loop .inv .2 K o u e f h in
       let y = parted (x .tape) (c .before .before .before .before .before .loop-test .taken) (rw (c .before .before .before .before .view-at .ensures) at (c .before .before .if2 .taken)) in
       let z = c .before .doubled-at .ensures K o u e (y .name) (y .kids) (y .rest) (y .node) (y .inner) (y .after) in
-      sym (x .is ∙ ap (doubled K o) (y .is) ∙ doubled-elem K o (y .name) (y .kids) (y .rest) (over (c .before .before .before .before .before .before .before) K o u e)
+      sym (x .same ∙ ap (doubled K o) (y .is) ∙ doubled-elem K o (y .name) (y .kids) (y .rest) (over (c .before .before .before .before .before .before .before) K o u e)
       ∙ or-first (doubledAt K o (y .name) (y .kids) (y .rest)) (doubled K o (y .rest)) (sym z ∙ c .if3 .taken))
 
   doubled-in-loop-less : doubled-in-lts.Need-loop-less (doubled-in-calls t) (doubled-in-at t) doubled-in.Post doubled-in-Inv-loop doubled-in-μ-loop
@@ -133,7 +134,7 @@ module _ (t : ℕ) where
         let x = c .before .before .before .before .before .before .loop .inv .2 K o u e f h in
         let y = parted (x .tape) (c .before .before .before .before .before .loop-test .taken) (rw (c .before .before .before .before .view-at .ensures) at (c .before .before .if2 .taken)) in
         let z : doubledAt K o (y .name) (y .kids) (y .rest) ≡ false = sym (c .before .doubled-at .ensures K o u e (y .name) (y .kids) (y .rest) (y .node) (y .inner) (y .after)) ∙ c .if3 .left in
-        test-on (doubled K o) x y (doubled-elem K o (y .name) (y .kids) (y .rest) (over (c .before .before .before .before .before .before .before) K o u e) ∙ rw z),
+        going-past (doubled K o) x y (doubled-elem K o (y .name) (y .kids) (y .rest) (over (c .before .before .before .before .before .before .before) K o u e) ∙ rw z),
   )
 
   doubled-in-loop-less-2 : doubled-in-lts.Need-loop-less-2 (doubled-in-calls t) (doubled-in-at t) doubled-in.Post doubled-in-Inv-loop doubled-in-μ-loop
@@ -144,11 +145,11 @@ module _ (t : ℕ) where
     omega (arith, turn (c .before .before .before) .forward, c .before .before .before .before .loop .inv .0),
     checked-next (c .before .before .before .before .loop .inv .1) (c .before .before .before .loop-test .taken),
     λ K o u e f h.
-        test-skip (doubled K o) (doubled-text K o) (doubled-stamp K o) (c .before .before .before .before .loop .inv .2 K o u e f h) (c .before .before .before .loop-test .taken) (rw (c .before .before .view-at .ensures) at (c .if2 .left)),
+        going-over (doubled K o) (doubled-text K o) (doubled-stamp K o) (c .before .before .before .before .loop .inv .2 K o u e f h) (c .before .before .before .loop-test .taken) (rw (c .before .before .view-at .ensures) at (c .if2 .left)),
   )
 
   doubled-in-returns-3 : doubled-in-lts.Need-returns-3 (doubled-in-calls t) (doubled-in-at t) doubled-in.Post doubled-in-Inv-loop doubled-in-μ-loop
-  doubled-in-returns-3 c K o u e f h = sym (test-done (doubled K o) (c .before .loop .inv .2 K o u e f h) (c .loop-test .left) ∙ doubled-end K o)
+  doubled-in-returns-3 c K o u e f h = sym (going-done (c .before .loop .inv .2 K o u e f h) (c .loop-test .left) ∙ doubled-end K o)
 
 pub +doubled-at+doubled-in-spec : {M : Type 1} → statement M
 +doubled-at+doubled-in-spec =

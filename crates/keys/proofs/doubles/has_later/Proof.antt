@@ -10,7 +10,8 @@ use Rattle.keys.specs.Version.{label}
 use Rattle.keys.specs.Placed.{OfPlace}
 use Rattle.keys.specs.Checked.{Checked, checked-next, checked-here}
 use Rattle.keys.specs.LabelLaws.{same-label, other-label}
-use Rattle.keys.specs.Doubles.{TestLeft, parted, test-start, test-skip, test-on, test-done, isAmong, among-text, among-stamp, among-end, among-elem, among-on}
+use Rattle.keys.specs.Walks.{Going, going-start, going-done, parted, going-past, going-over}
+use Rattle.keys.specs.Doubles.{isAmong, among-text, among-stamp, among-end, among-elem, among-on}
 use Rattle.keys.proofs.doubles.has_later.Statement.{statement}
 use Rattle.keys.proofs.doubles.has_later.Tie as tie
 use Rattle.keys.proofs.doubles.has_later.Reads as reads
@@ -20,7 +21,7 @@ use Rattle.xml.proofs.tape.view_at.Reads as view-at-reads
 
 abbrev Inv-loop : tie.InvT-loop
 Inv-loop text table n place src tape p lo hi q₀ q = (lo ≤ q) × Checked text table n place src tape q hi × OfPlace text table n place (λ K o. (m : Bytes) (k f : Forest) → Node src tape p 1 m
-    → Tape src tape (p + 1) (nextAt tape p) k → Tape src tape lo hi f → TestLeft src tape q hi (isAmong K o (label K o m k)) f)
+    → Tape src tape (p + 1) (nextAt tape p) k → Tape src tape lo hi f → Going src tape q hi (isAmong K o (label K o m k) f) (isAmong K o (label K o m k)))
 
 abbrev μ-loop : tie.MeasureT-loop
 μ-loop text table n place src tape p lo hi q₀ q = hi - q
@@ -32,7 +33,7 @@ turn : (c : lts.In-loop calls reads.Pre reads.Post Inv-loop μ-loop) → Front (
 turn c = front (c .before .loop .inv .1 .tape) (c .loop-test .taken)
 
 loop-holds : tie.Need-loop-holds Inv-loop μ-loop
-loop-holds c = (omega arith, c .before .before .before .before .pre .1, λ K o t e m k f a b h. test-start (isAmong K o (label K o m k)) h)
+loop-holds c = (omega arith, c .before .before .before .before .pre .1, λ K o t e m k f a b h. going-start (isAmong K o (label K o m k)) h)
 
 view-at-requires : tie.Need-view-at-requires Inv-loop μ-loop
 view-at-requires c κs = turn c .held
@@ -45,7 +46,7 @@ returns c K o t e m k f a b h =
     let l = label K o m k in
     let x = c .before .before .before .before .before .before .loop .inv .2 K o t e m k f a b h in
     let y = parted (x .tape) (c .before .before .before .before .before .loop-test .taken) (rw (c .before .before .before .before .view-at .ensures) at (c .before .before .if1 .taken)) in
-    sym (x .is ∙ ap (isAmong K o l) (y .is) ∙ among-elem K o l (y .name) (y .kids) (y .rest)
+    sym (x .same ∙ ap (isAmong K o l) (y .is) ∙ among-elem K o l (y .name) (y .kids) (y .rest)
     (same-label l (label K o (y .name) (y .kids)) (sym (c .before .compare-labels .ensures K o t e m k (y .name) (y .kids) a b (y .node) (y .inner)) ∙ c .if2 .taken)))
 
 loop-less : tie.Need-loop-less Inv-loop μ-loop
@@ -59,7 +60,7 @@ loop-again c = rw (c .before .before .before .before .view-at .ensures) (
       let l = label K o m k in
       let x = c .before .before .before .before .before .before .loop .inv .2 K o t e m k f a b h in
       let y = parted (x .tape) (c .before .before .before .before .before .loop-test .taken) (rw (c .before .before .before .before .view-at .ensures) at (c .before .before .if1 .taken)) in
-      test-on (isAmong K o l) x y (among-on K o l (y .name) (y .kids) (y .rest)
+      going-past (isAmong K o l) x y (among-on K o l (y .name) (y .kids) (y .rest)
       (other-label l (label K o (y .name) (y .kids)) (λ z. c .if2 .left (c .before .compare-labels .ensures K o t e m k (y .name) (y .kids) a b (y .node) (y .inner) ∙ z)))),
 )
 
@@ -71,11 +72,11 @@ loop-again-2 c = rw (c .before .before .view-at .ensures) (
   omega (arith, turn (c .before .before .before) .forward, c .before .before .before .before .loop .inv .0),
   checked-next (c .before .before .before .before .loop .inv .1) (c .before .before .before .loop-test .taken),
   λ K o t e m k f a b h.
-      test-skip (isAmong K o (label K o m k)) (among-text K o (label K o m k)) (among-stamp K o (label K o m k)) (c .before .before .before .before .loop .inv .2 K o t e m k f a b h) (c .before .before .before .loop-test .taken) (rw (c .before .before .view-at .ensures) at (c .if1 .left)),
+      going-over (isAmong K o (label K o m k)) (among-text K o (label K o m k)) (among-stamp K o (label K o m k)) (c .before .before .before .before .loop .inv .2 K o t e m k f a b h) (c .before .before .before .loop-test .taken) (rw (c .before .before .view-at .ensures) at (c .if1 .left)),
 )
 
 returns-2 : tie.Need-returns-2 Inv-loop μ-loop
-returns-2 c K o t e m k f a b h = sym (test-done (isAmong K o (label K o m k)) (c .before .loop .inv .2 K o t e m k f a b h) (c .loop-test .left) ∙ among-end K o (label K o m k))
+returns-2 c K o t e m k f a b h = sym (going-done (c .before .loop .inv .2 K o t e m k f a b h) (c .loop-test .left) ∙ among-end K o (label K o m k))
 
 pub has-later-spec : {M : Type 1} → statement M
 has-later-spec =

@@ -1,7 +1,8 @@
 -- `keys::keyed::has_key` meets its contract: one element of the name is found, and no second after it. Assumes nothing.
 use native.Mathlib.Omega.{arith}
 use mathlib.Core.Path.{sym, _∙_}
-use Rattle.keys.specs.KeyChild.{called-none, called-some, one-none, one-twice, one-once}
+use Rattle.keys.specs.FindKey.{called-none, called-some}
+use Rattle.keys.specs.KeyChild.{one-none, one-twice, one-once}
 use borrow.Author.Needs.{needs}
 use Rattle.keys.proofs.keyed.has_key.Statement.{statement}
 use Rattle.keys.proofs.keyed.has_key.Tie as tie
@@ -18,7 +19,7 @@ view-at-requires c κs = called-some (c .before .find-key .ensures (c .before .b
 find-key-requires-2 : tie.Need-find-key-requires-2
 find-key-requires-2 c κs =
     let x = called-some (c .before .before .find-key .ensures (c .before .before .before .before .before .before .pre .0 .forest) (c .before .before .before .before .before .before .pre .0 .tape)) (c .before .if1 .left) in
-    rw (c .view-at .ensures) (record { forest = x .rest; tape = x .after }, omega arith, omega arith)
+    rw (c .view-at .ensures) (omega arith, omega arith, record { forest = x .rest; tape = x .after })
 
 returns-2 : tie.Need-returns-2
 returns-2 c f h =

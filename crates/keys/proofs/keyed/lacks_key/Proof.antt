@@ -8,7 +8,8 @@ use borrow.Author.Tests.{not-true, not-false}
 use Rattle.keys.specs.KeyList.{keyNamesAt}
 use Rattle.keys.specs.Walks.{OfNodes}
 use Rattle.keys.specs.Strays.{lacking}
-use Rattle.keys.specs.KeyNames.{lackingFrom, lacking-start, lacking-here, lacking-more, lacking-done, key-row, key-within}
+use Rattle.keys.specs.KeyNames.{lackingFrom, lacking-start, lacking-here, lacking-more, lacking-done}
+use Rattle.keys.specs.LabelLaws.{key-room, key-within}
 use Rattle.keys.proofs.keyed.lacks_key.Statement.{statement}
 use Rattle.keys.proofs.keyed.lacks_key.Tie as tie
 use Rattle.keys.proofs.keyed.lacks_key.Reads as reads
@@ -28,7 +29,7 @@ row : (c : lts.In-loop (key-count-reads.Asked, key-count-reads.Learnt, key-name-
     → c .before .before .before .before .before .before .before .args .place + 1 + c .before .loop .j < c .before .before .before .before .before .before .before .args .n
 row c =
     let a = c .before .before .before .before .before .before .before .pre .placed in
-    key-row (a .keyList) (a .path) (a .table) (a .place-is) (c .before .loop .j) (omega (arith, c .before .before .key-count .ensures (c .before .before .before .before .before .before .before .args .text .now) (a .keyList) (a .path) (a .table) (a .place-is), c .loop-test .taken))
+    key-room (a .table) (a .path) _ (a .place-is) (c .before .loop .j) (omega (arith, c .before .before .key-count .ensures (c .before .before .before .before .before .before .before .args .text .now) (a .keyList) (a .path) (a .table) (a .place-is), c .loop-test .taken))
 
 key-count-requires : tie.Need-key-count-requires Inv-loop μ-loop
 key-count-requires c κs = c .before .before .before .before .pre .placed .table .held
@@ -49,7 +50,7 @@ has-key-requires : tie.Need-has-key-requires Inv-loop μ-loop
 has-key-requires c κs =
     let a = c .before .before .before .before .before .before .before .before .pre .placed in
     let l : c .before .before .loop .j < length (keyNamesAt (a .keyList) (a .path)) = omega (arith, c .before .before .before .key-count .ensures (c .before .before .before .before .before .before .before .before .args .text .now) (a .keyList) (a .path) (a .table) (a .place-is), c .before .loop-test .taken) in
-    let w = key-within (a .keyList) (a .path) (a .table) (a .place-is) (c .before .before .loop .j) l in
+    let w = key-within (a .table) (a .path) _ (a .place-is) (c .before .before .loop .j) l in
     (c .before .before .before .before .before .before .before .before .pre .valid, rw (c .key-name .ensures) (omega arith), rw (c .key-name .ensures) w)
 
 returns : tie.Need-returns Inv-loop μ-loop

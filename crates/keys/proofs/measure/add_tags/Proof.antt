@@ -12,7 +12,7 @@ slice-aggregate-same-bytes : tie.Need-slice-aggregate-same-bytes
 slice-aggregate-same-bytes c = search needs
 
 same-bytes-requires : tie.Need-same-bytes-requires
-same-bytes-requires c κs = search needs
+same-bytes-requires c κs = record { le₁ = omega arith; in₁ = omega arith; le₂ = omega arith; in₂ = omega arith }
 
 sub-add : tie.Need-sub-add
 sub-add c = search needs

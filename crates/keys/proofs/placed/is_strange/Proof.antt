@@ -5,6 +5,7 @@ use borrow.Author.Tests.{not-true, not-false}
 use Rattle.xml.specs.Bytes.{bytes-compute}
 use Rattle.keys.specs.TableLaws.{table-rules}
 use Rattle.keys.specs.Strays.{strange-named, strange-under, strange-below}
+use native.Mathlib.Omega.{arith}
 use borrow.Author.Needs.{needs}
 use Rattle.keys.proofs.placed.is_strange.Statement.{statement}
 use Rattle.keys.proofs.placed.is_strange.Tie as tie
@@ -13,7 +14,7 @@ slice-aggregate-same-bytes : tie.Need-slice-aggregate-same-bytes
 slice-aggregate-same-bytes c = search needs
 
 same-bytes-requires : tie.Need-same-bytes-requires
-same-bytes-requires c κs = search needs
+same-bytes-requires c κs = record { le₁ = omega arith; in₁ = omega arith; le₂ = omega arith; in₂ = omega arith }
 
 returns : tie.Need-returns
 unfolding bytes-compute

@@ -9,7 +9,6 @@ use Rattle.keys.proofs.places.is_child.Statement.{statement}
 use Rattle.keys.proofs.places.is_child.Tie as tie
 use Rattle.keys.proofs.places.is_child.Reads as reads
 use Rattle.keys.proofs.places.is_child.Lts as lts
-use Rattle.keys.proofs.compare.same_bytes.Reads as same-bytes-reads
 use Rattle.keys.proofs.places.key_name.Reads as key-name-reads
 
 -- src/places.rt:63:15
@@ -42,7 +41,7 @@ key-name-requires c κs = search needs
 
 -- src/places.rt:67:5
 same-bytes-requires : tie.Need-same-bytes-requires
-same-bytes-requires c κs = let w = part-within (c .before .before .before .before .before .before .args .table .now) (c .before .before .before .before .before .before .args .i) (length (c .before .before .before .before .before .before .args .text .now)) (c .key-name .ensures) (omega arith) in (omega arith, omega arith, w .0, w .1)
+same-bytes-requires c κs = let w = part-within (c .before .before .before .before .before .before .args .table .now) (c .before .before .before .before .before .before .args .i) (length (c .before .before .before .before .before .before .args .text .now)) (c .key-name .ensures) (omega arith) in record { le₁ = omega arith; in₁ = omega arith; le₂ = w .0; in₂ = w .1 }
 
 -- src/places.rt:59:1
 returns-2 : tie.Need-returns-2

@@ -2,7 +2,8 @@
 use native.Mathlib.Omega.{arith}
 use mathlib.Core.Path.{sym, _∙_}
 use borrow.Author.Needs.{needs}
-use Rattle.timestamp.specs.Reading.{digit-low, digit-high, step-digit, step-dash, step-comma, step-other}
+use Rattle.timestamp.specs.TimesLaws.{digit-low, digit-high}
+use Rattle.timestamp.specs.Reading.{step-digit, step-dash, step-comma, step-other}
 use Rattle.timestamp.proofs.text.Reader.step.Statement.{statement}
 use Rattle.timestamp.proofs.text.Reader.step.Tie as tie
 

@@ -1,0 +1,127 @@
+-- `archive::front::branches_legal` meets its contract. The loop's invariant (`Way`): the answer is that for the nodes left, after those
+-- passed. Assumes nothing.
+use Prim.Native.Nat.{_-_, _≤_}
+use native.Mathlib.Omega.{arith}
+use mathlib.Core.Path.{_≡_, sym, _∙_}
+use borrow.Author.Needs.{needs}
+use Rattle.xml.specs.Forest.{Forest, end}
+use Rattle.xml.specs.Tape.{Tape}
+use Rattle.xml.specs.TapeLaws.{Front, bytesAt, front}
+use Rattle.xml.specs.SameTapes.{not-true, not-false}
+use Rattle.timestamp.specs.Set.{setOf, none}
+use Rattle.timestamp.specs.Parse.{accepted, parsed}
+use Rattle.archive.specs.Branches.{judged, Way, first, outcome-refused, outcome-accepted, way-start, way-few, way-done, way-other, way-refused, way-not, way-timed, way-repeats, way-more}
+use Rattle.archive.proofs.front.branches_legal.Statement.{statement}
+use Rattle.archive.proofs.front.branches_legal.Tie as tie
+
+abbrev Inv-loop : tie.InvT-loop
+Inv-loop src tape lo hi n times p₀ count₀ union₀ first₀ p count union first =
+    (lo ≤ p) × (count ≤ p) × ((f : Forest) → Tape src tape lo hi f → Way src tape lo p hi n (setOf (times .words)) (setOf (union .words)) first count (judged n (setOf (times .words)) none 0 0 end f))
+
+abbrev μ-loop : tie.MeasureT-loop
+μ-loop src tape lo hi n times p₀ count₀ union₀ first₀ p count union first = hi - p
+
+way : (c : tie.At-loop Inv-loop μ-loop) → Way (c .before .before .before .before .args .src .now) (c .before .before .before .before .args .tape .now) (c .before .before .before .before .args .lo) (c .loop .p) (c .before .before .before .before .args .hi) (c .before .before .before .before .args .n) (setOf (c .before .before .before .before .args .times .words)) (setOf (c .loop .union .words)) (c .loop .first) (c .loop .count) (judged (c .before .before .before .before .args .n) (setOf (c .before .before .before .before .args .times .words)) none 0 0 end (c .before .before .before .before .pre .0 .forest))
+way c = c .loop .inv .2 (c .before .before .before .before .pre .0 .forest) (c .before .before .before .before .pre .0 .tape)
+
+here : (c : tie.In-loop Inv-loop μ-loop) → Front (c .before .before .before .before .before .args .src .now) (c .before .before .before .before .before .args .tape .now) (c .before .loop .p) (c .before .before .before .before .before .args .hi)
+here c = front (way (c .before) .after) (c .loop-test .taken)
+
+-- the text is that of a set
+accept : (c : tie.Else2 Inv-loop μ-loop) → parsed (bytesAt (c .before .before .before .before .before .before .before .before .before .before .before .args .src .now) (c .before .before .before .before .before .before .before .before .before .before .before .args .tape .now) (c .before .before .before .before .before .before .before .loop .p)) ≡ accepted (setOf (c .before .before .times-at .result .stamp .words))
+accept c = outcome-accepted (c .before .before .times-at .result) _ (rw (c .before .before .before .before .before .view-at .ensures) at (c .before .before .times-at .ensures)) (not-false _ (c .if2 .left))
+
+empty-requires : tie.Need-empty-requires Inv-loop μ-loop
+empty-requires c κs = search needs
+
+loop-holds : tie.Need-loop-holds Inv-loop μ-loop
+loop-holds c = (omega arith, omega arith, λ f t. way-start t (c .empty .ensures))
+
+view-at-requires : tie.Need-view-at-requires Inv-loop μ-loop
+view-at-requires c κs = here (c) .held
+
+returns : tie.Need-returns Inv-loop μ-loop
+returns c f t = sym (way-other (c .before .before .before .before .loop .inv .2 f t) (c .before .before .before .loop-test .taken) (rw (c .before .before .view-at .ensures) at (c .if1 .taken)))
+
+times-at-requires : tie.Need-times-at-requires Inv-loop μ-loop
+times-at-requires c κs = rw (c .before .before .view-at .ensures) (omega arith, here (c .before .before .before) .within)
+
+returns-2 : tie.Need-returns-2 Inv-loop μ-loop
+returns-2 c f t = sym (way-refused (c .before .before .before .before .before .before .before .loop .inv .2 f t) (c .before .before .before .before .before .before .loop-test .taken) (rw (c .before .before .before .before .before .view-at .ensures) at (c .before .before .before .if1 .left)) (outcome-refused (c .before .before .times-at .result) _ (rw (c .before .before .before .before .before .view-at .ensures) at (c .before .before .times-at .ensures)) (not-true _ (c .if2 .taken))))
+
+may-follow-requires : tie.Need-may-follow-requires Inv-loop μ-loop
+may-follow-requires c κs = c .before .before .before .before .before .before .before .before .before .before .before .pre .1
+
+returns-3 : tie.Need-returns-3 Inv-loop μ-loop
+returns-3 c f t = sym (way-not (c .before .before .before .before .before .before .before .before .before .loop .inv .2 f t) (c .before .before .before .before .before .before .before .before .loop-test .taken) (rw (c .before .before .before .before .before .before .before .view-at .ensures) at (c .before .before .before .before .before .if1 .left)) (setOf (c .before .before .before .before .times-at .result .stamp .words)) (accept (c .before .before)) (sym (c .before .may-follow .ensures) ∙ not-true _ (c .if3 .taken)))
+
+add-is-untimed : tie.Need-add-is-untimed Inv-loop μ-loop
+add-is-untimed c = omega (arith, here (c .before .before .before .before .before .before .before .before) .held)
+
+is-untimed-requires : tie.Need-is-untimed-requires Inv-loop μ-loop
+is-untimed-requires c κs = rw (c .before .before .before .before .before .before .before .view-at .ensures) (record { forest = _; tape = first (way (c .before .before .before .before .before .before .before .before .before) .after) (c .before .before .before .before .before .before .before .before .loop-test .taken) .inside })
+
+returns-4 : tie.Need-returns-4 Inv-loop μ-loop
+returns-4 c f t = sym (way-timed (c .before .before .before .before .before .before .before .before .before .before .before .loop .inv .2 f t) (c .before .before .before .before .before .before .before .before .before .before .loop-test .taken) (rw (c .before .before .before .before .before .before .before .before .before .view-at .ensures) at (c .before .before .before .before .before .before .before .if1 .left)) (setOf (c .before .before .before .before .before .before .times-at .result .stamp .words)) (accept (c .before .before .before .before)) (sym (c .before .before .before .may-follow .ensures) ∙ not-false _ (c .before .before .if3 .left)) (λ g h. sym (not-true _ (c .if4 .taken)) ∙ (rw (c .before .before .before .before .before .before .before .before .before .view-at .ensures) at (c .before .is-untimed .ensures)) g h))
+
+add-is-repeated : tie.Need-add-is-repeated Inv-loop μ-loop
+add-is-repeated c = omega (arith, here (c .before .before .before .before .before .before .before .before .before .before) .held)
+
+is-repeated-requires : tie.Need-is-repeated-requires Inv-loop μ-loop
+is-repeated-requires c κs = rw (c .before .before .before .before .before .before .before .before .before .view-at .ensures) (record { forest = _; tape = way (c .before .before .before .before .before .before .before .before .before .before .before) .before }, record { forest = _; tape = first (way (c .before .before .before .before .before .before .before .before .before .before .before) .after) (c .before .before .before .before .before .before .before .before .before .before .loop-test .taken) .inside })
+
+returns-5 : tie.Need-returns-5 Inv-loop μ-loop
+returns-5 c f t = sym (way-repeats (c .before .before .before .before .before .before .before .before .before .before .before .before .before .loop .inv .2 f t) (c .before .before .before .before .before .before .before .before .before .before .before .before .loop-test .taken) (rw (c .before .before .before .before .before .before .before .before .before .before .before .view-at .ensures) at (c .before .before .before .before .before .before .before .before .before .if1 .left)) (setOf (c .before .before .before .before .before .before .before .before .times-at .result .stamp .words)) (accept (c .before .before .before .before .before .before)) (sym (c .before .before .before .before .before .may-follow .ensures) ∙ not-false _ (c .before .before .before .before .if3 .left)) (λ g h. sym (not-false _ (c .before .before .if4 .left)) ∙ (rw (c .before .before .before .before .before .before .before .before .before .before .before .view-at .ensures) at (c .before .before .before .is-untimed .ensures)) g h) (λ d g a b. sym (c .if5 .taken) ∙ (rw (c .before .before .before .before .before .before .before .before .before .before .before .view-at .ensures) at (c .before .is-repeated .ensures)) d g a b))
+
+union-requires : tie.Need-union-requires Inv-loop μ-loop
+union-requires c κs = search needs
+
+first-requires : tie.Need-first-requires Inv-loop μ-loop
+first-requires c κs = search needs
+
+add-count : tie.Need-add-count Inv-loop μ-loop
+add-count c = omega (arith, (c .before .before .before .before .before .before .before .before .before .before .before .before .before .before .before .before .before .before .before .fits), (c .before .before .before .before .before .before .before .before .before .before .before .before .before .before .before .before .before .before .before .good), c .before .before .before .before .before .before .before .before .before .before .before .before .before .before .before .loop .inv .1, here (c .before .before .before .before .before .before .before .before .before .before .before .before .before .before) .held)
+
+loop-less : tie.Need-loop-less Inv-loop μ-loop
+loop-less c = let s = here (c .before .before .before .before .before .before .before .before .before .before .before .before .before .before) in rw (c .before .before .before .before .before .before .before .before .before .before .before .before .before .view-at .ensures) (omega (arith, s .forward, s .inside))
+
+loop-again : tie.Need-loop-again Inv-loop μ-loop
+loop-again c = let s = here (c .before .before .before .before .before .before .before .before .before .before .before .before .before .before) in rw (c .before .before .before .before .before .before .before .before .before .before .before .before .before .view-at .ensures) (omega (arith, s .forward, c .before .before .before .before .before .before .before .before .before .before .before .before .before .before .before .loop .inv .0), omega (arith, s .forward, c .before .before .before .before .before .before .before .before .before .before .before .before .before .before .before .loop .inv .1), λ f t. way-more (c .before .before .before .before .before .before .before .before .before .before .before .before .before .before .before .loop .inv .2 f t) (c .before .before .before .before .before .before .before .before .before .before .before .before .before .before .loop-test .taken) (rw (c .before .before .before .before .before .before .before .before .before .before .before .before .before .view-at .ensures) at (c .before .before .before .before .before .before .before .before .before .before .before .if1 .left)) (setOf (c .before .before .before .before .before .before .before .before .before .before .times-at .result .stamp .words)) (accept (c .before .before .before .before .before .before .before .before)) (sym (c .before .before .before .before .before .before .before .may-follow .ensures) ∙ not-false _ (c .before .before .before .before .before .before .if3 .left)) (λ g h. sym (not-false _ (c .before .before .before .before .if4 .left)) ∙ (rw (c .before .before .before .before .before .before .before .before .before .before .before .before .before .view-at .ensures) at (c .before .before .before .before .before .is-untimed .ensures)) g h) (λ d g a b. sym (c .before .before .if5 .left) ∙ (rw (c .before .before .before .before .before .before .before .before .before .before .before .before .before .view-at .ensures) at (c .before .before .before .is-repeated .ensures)) d g a b) (c .before .union .ensures) (c .first .ensures))
+
+returns-6 : tie.Need-returns-6 Inv-loop μ-loop
+returns-6 c f t = sym (way-few (c .before .before .loop .inv .2 f t) (c .before .loop-test .left) (c .if6 .taken))
+
+same-requires : tie.Need-same-requires Inv-loop μ-loop
+same-requires c κs = search needs
+
+returns-7 : tie.Need-returns-7 Inv-loop μ-loop
+returns-7 c f t = c .same .ensures ∙ sym (way-done (c .before .before .before .loop .inv .2 f t) (c .before .before .loop-test .left) (c .before .if6 .left))
+
+pub branches-legal-spec : {M : Type 1} → statement M
+branches-legal-spec =
+    tie.close
+    (tie.spec
+    Inv-loop
+    μ-loop
+    empty-requires
+    loop-holds
+    view-at-requires
+    returns
+    times-at-requires
+    returns-2
+    may-follow-requires
+    returns-3
+    add-is-untimed
+    is-untimed-requires
+    returns-4
+    add-is-repeated
+    is-repeated-requires
+    returns-5
+    union-requires
+    first-requires
+    add-count
+    loop-less
+    loop-again
+    returns-6
+    same-requires
+    returns-7)
