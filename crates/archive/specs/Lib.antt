@@ -49,6 +49,14 @@ pub mod Going
 pub mod Small
 pub mod Layered
 pub mod SmallLaws
+pub mod AddParts
+pub mod AddTurns
+pub mod AddLegal
+pub mod TimedLaws
+pub mod AddFront
+pub mod AddWalk
+pub mod AddWay
+pub mod AddWhole
 pub mod Rendered
 pub mod VersionText
 pub mod Timely

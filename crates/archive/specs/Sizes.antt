@@ -58,7 +58,7 @@ none-in own i (stamp t k r) h = go (belongs i t) refl (h .0) (h .1) (λ x. none-
     go true e f g ih rest = clash (sym (f e))
     go false e f g ih rest = let z = ih (rw e at g) in rw e (omega arith)
 
-nodes-join : (f g : Forest) → nodes (join f g) ≡ nodes f + nodes g
+pub nodes-join : (f g : Forest) → nodes (join f g) ≡ nodes f + nodes g
 unfolding join nodes
 nodes-join end g = omega arith
 nodes-join (text b r) g = omega (arith, nodes-join r g)
