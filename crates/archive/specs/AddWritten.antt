@@ -54,7 +54,7 @@ holding-new : (n : ℕ) (c : Content) (kids : Forest) → holding (addG contents
 unfolding holding addG
 holding-new n c kids = refl
 
-stamped-fresh : (n : ℕ) (t : Tree Label Content) → stamped (suc n) (onlyAfter n) (mergeS labels contents n nil t) ≡ forestOf t
+pub stamped-fresh : (n : ℕ) (t : Tree Label Content) → stamped (suc n) (onlyAfter n) (mergeS labels contents n nil t) ≡ forestOf t
 unfolding stamped mergeBy fresh forestOf
 stamped-fresh n nil = refl
 stamped-fresh n (node l c k r) =

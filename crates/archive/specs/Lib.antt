@@ -62,3 +62,7 @@ pub mod VersionText
 pub mod Timely
 pub mod BackText
 pub mod Standing
+pub mod Reception
+pub mod CheckLaws
+pub mod Founding
+pub mod FoundLaws

@@ -1,0 +1,67 @@
+-- `found_in` meets its contract: a law for each answer (FoundLaws).
+use Rattle.archive.specs.CheckLaws.{load-table, load-noted, load-kept}
+use Rattle.archive.specs.FoundLaws.{found-2, found-long, found-3, found-4, found-keys}
+use borrow.Author.Needs.{needs}
+use Rattle.archive.proofs.found.found_in.Statement.{statement}
+use Rattle.archive.proofs.found.found_in.Tie as tie
+
+returns : tie.Need-returns
+returns c = found-2 (c .before .before .before .before .before .args .keys .now) (c .before .before .before .before .before .args .version .now) (c .before .before .before .before .before .args .out .now) (c .if1 .taken)
+
+returns-2 : tie.Need-returns-2
+returns-2 c = found-long (c .before .before .before .before .before .before .args .keys .now) (c .before .before .before .before .before .before .args .version .now) (c .before .before .before .before .before .before .args .out .now) (c .before .if1 .left) (c .if2 .taken)
+
+slice-aggregate-load : tie.Need-slice-aggregate-load
+slice-aggregate-load c = search needs
+
+load-requires : tie.Need-load-requires
+load-requires c κs = search needs
+
+enum-known-n : tie.Need-enum-known-n
+enum-known-n c = search needs
+
+slice-aggregate-found-under : tie.Need-slice-aggregate-found-under
+slice-aggregate-found-under c = search needs
+
+found-under-requires : tie.Need-found-under-requires
+found-under-requires c κs = let t = load-table _ _ (c .before .before .before .before .n .given .1) (c .before .before .before .before .before .before .before .load .ensures) in (record { keys = t .0; table = t .1 }, c .before .before .before .before .before .before .before .before .before .if2 .left, c .before .before .before .before .before .before .before .before .before .before .before .before .before .before .before .pre)
+
+enum-told : tie.Need-enum-told
+enum-told c = search needs
+
+enum-told-2 : tie.Need-enum-told-2
+enum-told-2 c = search needs
+
+same-length : tie.Need-same-length
+same-length c = search needs
+
+same-length-2 : tie.Need-same-length-2
+same-length-2 c = search needs
+
+returns-3 : tie.Need-returns-3
+returns-3 c = let t = load-table _ _ (c .before .before .before .before .before .before .before .before .before .n .given .1) (c .before .before .before .before .before .before .before .before .before .before .before .before .load .ensures) in found-keys (c .before .before .before .before .before .before .before .before .before .before .before .before .before .before .before .before .before .before .before .before .args .keys .now) (c .before .before .before .before .before .before .before .before .before .before .before .before .before .before .before .before .before .before .before .before .args .version .now) (c .before .before .before .before .before .before .before .before .before .before .before .before .before .before .before .before .before .before .before .before .args .out .now) (c .before .before .before .before .before .before .before .before .before .before .before .before .before .before .before .if1 .left) (c .before .before .before .before .before .before .before .before .before .before .before .before .before .before .if2 .left) (t .0) (t .1 .accepted) (c .before .before .before .before .found-under .ensures (t .0) (t .1))
+
+returns-4 : tie.Need-returns-4
+returns-4 c = found-3 (c .before .before .before .before .before .before .before .before .before .before .before .args .keys .now) (c .before .before .before .before .before .before .before .before .before .before .before .args .version .now) (c .before .before .before .before .before .before .before .before .before .before .before .args .out .now) (c .before .before .before .before .before .before .if1 .left) (c .before .before .before .before .before .if2 .left) (load-noted _ _ (c .enum-told .given .1) (c .before .before .before .load .ensures))
+
+returns-5 : tie.Need-returns-5
+returns-5 c = found-4 (c .before .before .before .before .before .before .before .before .before .before .before .args .keys .now) (c .before .before .before .before .before .before .before .before .before .before .before .args .version .now) (c .before .before .before .before .before .before .before .before .before .before .before .args .out .now) (c .before .before .before .before .before .before .if1 .left) (c .before .before .before .before .before .if2 .left) (load-kept _ _ (c .enum-told2 .given .1) (c .before .before .before .load .ensures))
+
+pub found-in-spec : {M : Type 1} → statement M
+found-in-spec =
+    tie.close
+    (tie.spec
+    returns
+    returns-2
+    slice-aggregate-load
+    load-requires
+    enum-known-n
+    slice-aggregate-found-under
+    found-under-requires
+    enum-told
+    enum-told-2
+    same-length
+    same-length-2
+    returns-3
+    returns-4
+    returns-5)

@@ -1,0 +1,144 @@
+-- A version's text received: what is asked of its tape, what the answer says, and a law for each answer.
+use Prim.Native.Nat.{ℕ, _≤_}
+use mathlib.Core.Path.{_≡_, refl, sym, _∙_, subst}
+use mathlib.Core.Bool.{Bool, true, false}
+use mathlib.Core.List.{List, []}
+use lib.Dec.{eqb}
+use lib.ListN.{length}
+use Rattle.xml.specs.Bytes.{Bytes}
+use Rattle.xml.specs.Forest.{Forest, Tidy}
+use Rattle.xml.specs.Read.{whole, broken, read}
+use Rattle.xml.specs.RoundTrip.{read-tidy}
+use Rattle.xml.specs.Tape.{Tape}
+use Rattle.xml.specs.State.{Filled, Replied}
+use Rattle.xml.specs.Fits.{full-broken}
+use Rattle.xml.specs.declared.Reply.{Reply}
+use Rattle.xml.specs.declared.Reply.the-variants.{Done as Reads, Wrong, Full}
+use Rattle.keys.specs.Result.{Refusal, numberOf, r5, r6, r7, r8, r9, refused, ok}
+use Rattle.keys.specs.KeyList.{KeyList}
+use Rattle.keys.specs.Version.{version, parsed, dropWhite, tooLarge, misplaced, unkeyed, ordered}
+use Rattle.keys.specs.Table.{Table}
+use Rattle.keys.specs.Loading.{Tabled}
+use Rattle.keys.specs.Walks.{Walk, OfVersion, walk-top}
+use Rattle.keys.specs.Arrange.{VersionFit, Ordered, Refused, AnswerOf, Answers}
+use Rattle.keys.specs.declared.arrange.Arranged.{Arranged}
+use Rattle.keys.specs.declared.arrange.Arranged.the-variants.{Done as Arranges, Double}
+use Rattle.archive.specs.declared.received.Received.{Received}
+use Rattle.archive.specs.declared.received.Received.the-variants.{Done, Back}
+
+-- a version's text was read onto the tape
+pub record OnTape (src cells : List ℕ) (count : ℕ) : Type 0 where
+  pub forest : Forest
+  pub is : read false src ≡ whole forest
+  pub tape : Tape src cells 0 count forest
+
+-- the nodes 0 to m are the version of the text
+pub record Version (K : KeyList) (src left : List ℕ) (m : ℕ) : Type 0 where
+  pub forest : Forest
+  pub is : version K src ≡ ok forest
+  pub tape : Tape src left 0 m forest
+  pub few : m ≤ 512
+
+-- the text is refused under this number
+pub record SentBack (K : KeyList) (src : Bytes) (number : ℕ) : Type 0 where
+  pub row : Refusal
+  pub number-is : number ≡ numberOf row
+  pub later : eqb number 1 ≡ false
+  pub is : version K src ≡ refused row
+
+abbrev pub Receives : Bytes → List ℕ → ℕ → List ℕ → List ℕ → Received → Type 0
+Receives keyText table n src left (Done m) = (K : KeyList) → Table keyText table n K → Version K src left m
+Receives keyText table n src left (Back x) = (K : KeyList) → Table keyText table n K → SentBack K src x
+
+pub walked : {keyText : Bytes} {table : List ℕ} {n : ℕ} {src cells : List ℕ} {count : ℕ} → Tabled keyText table n → OnTape src cells count
+    → Walk keyText table n 128 src cells 0 count
+walked t g = walk-top (t .table) (g .tape)
+
+-- ---- the reader's answers, and those of `arrange`
+module _ (src before cells : List ℕ) {r : Reply} where
+  pub read-done : {count : ℕ} → r ≡ Reads count → Replied false src before cells r → OnTape src cells count
+  read-done {count} e x = let g : Filled false src before cells count = subst (Replied false src before cells) e x in record { forest = g .forest; is = g .is; tape = g .tape }
+
+  pub read-wrong : {p : ℕ} → r ≡ Wrong p → Replied false src before cells r → read false src ≡ broken p
+  read-wrong e x = subst (Replied false src before cells) e x
+
+  pub read-full : r ≡ Full → Replied false src before cells r → length src ≤ length cells → (p : ℕ) × (read false src ≡ broken p)
+  read-full e x l = full-broken false src cells (subst (Replied false src before cells) e x) l
+
+module _ {keyText : Bytes} {table : List ℕ} {n : ℕ} {src cells : List ℕ} {count : ℕ} (out : List ℕ) {left : List ℕ} {r : Arranged} where
+  pub arranged-done : {m : ℕ} → r ≡ Arranges m → Answers keyText table n src cells count out left r
+      → (K : KeyList) (f : Forest) → Table keyText table n K → Tape src cells 0 count f → Ordered K (dropWhite K [] f) src left m
+  arranged-done e x K f t h = subst (AnswerOf K (dropWhite K [] f) src out left) e (x K f t h)
+
+  pub arranged-double : r ≡ Double → Answers keyText table n src cells count out left r
+      → (K : KeyList) (f : Forest) → Table keyText table n K → Tape src cells 0 count f → Refused K (dropWhite K [] f) out left
+  arranged-double e x K f t h = subst (AnswerOf K (dropWhite K [] f) src out left) e (x K f t h)
+
+-- ---- the three tests' answers
+abbrev pub Large : Bytes → List ℕ → ℕ → List ℕ → List ℕ → ℕ → Bool → Type 0
+Large keyText table n src cells count b = OfVersion keyText table n src cells count (λ K f. Tidy false f → b ≡ tooLarge (dropWhite K [] f))
+
+abbrev pub Misplaced : Bytes → List ℕ → ℕ → List ℕ → List ℕ → ℕ → Bool → Type 0
+Misplaced keyText table n src cells count b = OfVersion keyText table n src cells count (λ K f. b ≡ misplaced K [] (dropWhite K [] f))
+
+abbrev pub Unkeyed : Bytes → List ℕ → ℕ → List ℕ → List ℕ → ℕ → Bool → Type 0
+Unkeyed keyText table n src cells count b = OfVersion keyText table n src cells count (λ K f. b ≡ unkeyed K [] (dropWhite K [] f))
+
+-- ---- a law for each answer
+pub sent-5 : {keyText : Bytes} {table : List ℕ} {n : ℕ} {src : List ℕ} {p : ℕ} → read false src ≡ broken p → (K : KeyList) → Table keyText table n K → SentBack K src 5
+unfolding version parsed numberOf
+sent-5 e K t = record { row = r5; number-is = refl; later = refl; is = rw e }
+
+module _ {keyText : Bytes} {table : List ℕ} {n : ℕ} {src cells : List ℕ} {count : ℕ} (g : OnTape src cells count) where
+  large : {b c : Bool} → Large keyText table n src cells count b → b ≡ c → (K : KeyList) → Table keyText table n K → tooLarge (dropWhite K [] (g .forest)) ≡ c
+  large a e K t = sym (a K t (g .forest) (g .tape) (read-tidy false src (g .forest) (g .is) .0)) ∙ e
+
+  pub sent-6 : {b : Bool} → Large keyText table n src cells count b → b ≡ true → (K : KeyList) → Table keyText table n K → SentBack K src 6
+  unfolding version parsed numberOf
+  sent-6 a e K t = record { row = r6; number-is = refl; later = refl; is = rw (g .is, large a e K t) }
+
+  module _ {b : Bool} (a : Large keyText table n src cells count b) (e : b ≡ false) where
+    pub sent-7 : {c : Bool} → Misplaced keyText table n src cells count c → c ≡ true → (K : KeyList) → Table keyText table n K → SentBack K src 7
+    unfolding version parsed numberOf
+    sent-7 m d K t = record { row = r7; number-is = refl; later = refl; is = rw (g .is, large a e K t, sym (m K t (g .forest) (g .tape)) ∙ d) }
+
+    module _ {c : Bool} (m : Misplaced keyText table n src cells count c) (d : c ≡ false) where
+      pub sent-8 : {u : Bool} → Unkeyed keyText table n src cells count u → u ≡ true → (K : KeyList) → Table keyText table n K → SentBack K src 8
+      unfolding version parsed numberOf
+      sent-8 k h K t = record { row = r8; number-is = refl; later = refl; is = rw (g .is, large a e K t, sym (m K t (g .forest) (g .tape)) ∙ d, sym (k K t (g .forest) (g .tape)) ∙ h) }
+
+      module _ {u : Bool} (k : Unkeyed keyText table n src cells count u) (h : u ≡ false) where
+        pub arrange-fit : Tabled keyText table n → VersionFit keyText table n src cells count
+        arrange-fit t =
+            record {
+              keyList = t .keys;
+              tabled = t .table;
+              forest = g .forest;
+              tape = g .tape;
+              small = large a e (t .keys) (t .table);
+              placed = sym (m (t .keys) (t .table) (g .forest) (g .tape)) ∙ d;
+              keyed = sym (k (t .keys) (t .table) (g .forest) (g .tape)) ∙ h;
+            }
+
+        pub sent-9 : {out left : List ℕ} → ((K : KeyList) (f : Forest) → Table keyText table n K → Tape src cells 0 count f → Refused K (dropWhite K [] f) out left)
+            → (K : KeyList) → Table keyText table n K → SentBack K src 9
+        unfolding version parsed numberOf
+        sent-9 x K t =
+            record {
+              row = r9;
+              number-is = refl;
+              later = refl;
+              is = rw (g .is, large a e K t, sym (m K t (g .forest) (g .tape)) ∙ d, sym (k K t (g .forest) (g .tape)) ∙ h, x K (g .forest) t (g .tape) .twice);
+            }
+
+        pub received : {left : List ℕ} {j : ℕ} → ((K : KeyList) (f : Forest) → Table keyText table n K → Tape src cells 0 count f → Ordered K (dropWhite K [] f) src left j)
+            → (K : KeyList) → Table keyText table n K → Version K src left j
+        unfolding version parsed
+        received x K t =
+            let o = x K (g .forest) t (g .tape) in
+            record {
+              forest = ordered K [] (dropWhite K [] (g .forest));
+              is = rw (g .is, large a e K t, sym (m K t (g .forest) (g .tape)) ∙ d, sym (k K t (g .forest) (g .tape)) ∙ h, o .single);
+              tape = o .tape;
+              few = o .few;
+            }
