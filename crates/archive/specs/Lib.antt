@@ -66,3 +66,7 @@ pub mod Reception
 pub mod CheckLaws
 pub mod Founding
 pub mod FoundLaws
+pub mod LegalKeys
+pub mod LegalTimes
+pub mod LegalSteps
+pub mod LegalGoing

@@ -27,7 +27,7 @@ pub struct Stand {
 }
 
 // The element that the sibling p is or, if it is a `T`, is around.
-fn element_at(tape: &[u32], p: usize) -> usize
+pub fn element_at(tape: &[u32], p: usize) -> usize
     requires { ⌜ 2 * p + 1 < length (now tape) ⌝ }
     ensures { λ r. ⌜ r ≡ elementAt (now (tape .entry)) p ⌝ }
 {

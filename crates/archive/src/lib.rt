@@ -6,6 +6,7 @@ pub mod content;
 pub mod found;
 pub mod front;
 pub mod history;
+pub mod legal;
 pub mod received;
 pub mod retrieve;
 pub mod sibling;

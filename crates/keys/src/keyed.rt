@@ -57,7 +57,15 @@ pub fn is_key_value(src: &[u8], tape: &[u32], lo: usize, hi: usize) -> bool
 }
 
 // Of the siblings lo to hi, just one element has the name text[a..e], and it holds a key value.
-fn has_key(src: &[u8], tape: &[u32], lo: usize, hi: usize, text: &[u8], a: usize, e: usize) -> bool
+pub fn has_key(
+    src: &[u8],
+    tape: &[u32],
+    lo: usize,
+    hi: usize,
+    text: &[u8],
+    a: usize,
+    e: usize,
+) -> bool
     requires { ⌜ Valid (now src) (now tape) lo hi × (a ≤ e) × (e ≤ length (now text)) ⌝ }
     ensures { λ r. ⌜ ((f : Forest) → Tape (now (src .entry)) (now (tape .entry)) lo hi f → r ≡ isOneValue (called (slice a e (now (text .entry))) f)) ⌝ }
 {
