@@ -64,8 +64,10 @@ pub mod BackText
 pub mod Standing
 pub mod Reception
 pub mod CheckLaws
+pub mod Giving
 pub mod Founding
 pub mod FoundLaws
+pub mod Runs
 pub mod LegalKeys
 pub mod LegalTimes
 pub mod LegalSteps

@@ -142,3 +142,11 @@ module _ {keyText : Bytes} {table : List ℕ} {n : ℕ} {src cells : List ℕ} {
               tape = o .tape;
               few = o .few;
             }
+
+-- ---- the answers of a version received
+module _ (keyText : Bytes) (table : List ℕ) (n : ℕ) (src left : List ℕ) {r : Received} where
+  pub received-done : {m : ℕ} → r ≡ Done m → Receives keyText table n src left r → (K : KeyList) → Table keyText table n K → Version K src left m
+  received-done e x = subst (Receives keyText table n src left) e x
+
+  pub received-back : {number : ℕ} → r ≡ Back number → Receives keyText table n src left r → (K : KeyList) → Table keyText table n K → SentBack K src number
+  received-back e x = subst (Receives keyText table n src left) e x

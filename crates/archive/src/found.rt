@@ -15,9 +15,10 @@ ghost use Rattle.xml.specs.Tape.{Tape};
 ghost use Rattle.keys.specs.KeyList.{KeyList};
 ghost use Rattle.keys.specs.Table.{Table as TableOf};
 ghost use Rattle.keys.specs.Loading.{Tabled};
-ghost use Rattle.archive.specs.Calls.{give};
+ghost use Rattle.archive.specs.Calls.{give, found as founded};
+ghost use Rattle.archive.specs.Giving.{Gives, Ends};
 ghost use Rattle.archive.specs.Founding.{firstText};
-ghost use Rattle.archive.specs.FoundLaws.{FirstOn, Gives, foundOf, foundIn, Founds};
+ghost use Rattle.archive.specs.FoundLaws.{FirstOn, foundOf, foundIn};
 
 // Writes the archive of the version that lies on the tape, as far as it fits.
 fn write_first(src: &[u8], tape: &[u32], m: usize, out: &mut [u8]) -> usize
@@ -103,7 +104,8 @@ fn found_in(keys: &[u8], version: &[u8], out: &mut [u8], work: &mut [u32]) -> An
 }
 
 pub fn found(keys: &[u8], version: &[u8], out: &mut [u8], work: &mut [u32]) -> Answer
-    ensures { λ r. ⌜ Founds (now (keys .entry)) (now (version .entry)) (now (out .entry)) (now (work .entry)) (r .number) (r .length) (now (out .exit)) (now (work .exit)) ⌝ }
+    ensures { λ r. ⌜ Ends (founded (now (keys .entry)) (now (version .entry)) (length (now (out .entry))) (length (now (work .entry))))
+        (now (out .entry)) (now (work .entry)) (r .number) (r .length) (now (out .exit)) (now (work .exit)) ⌝ }
 {
     if work.len() < 16384 {
         return Answer {

@@ -1,15 +1,15 @@
--- `found_in` meets its contract: a law for each answer (FoundLaws).
+-- `found_in` meets its contract: a law for each answer (Giving).
 use Rattle.archive.specs.CheckLaws.{load-table, load-noted, load-kept}
-use Rattle.archive.specs.FoundLaws.{found-2, found-long, found-3, found-4, found-keys}
+use Rattle.archive.specs.Giving.{step-ok, too-long, not-long, keys-3, keys-4}
 use borrow.Author.Needs.{needs}
 use Rattle.archive.proofs.found.found_in.Statement.{statement}
 use Rattle.archive.proofs.found.found_in.Tie as tie
 
 returns : tie.Need-returns
-returns c = found-2 (c .before .before .before .before .before .args .keys .now) (c .before .before .before .before .before .args .version .now) (c .before .before .before .before .before .args .out .now) (c .if1 .taken)
+returns c = too-long _ 4096 _ _ (c .if1 .taken)
 
 returns-2 : tie.Need-returns-2
-returns-2 c = found-long (c .before .before .before .before .before .before .args .keys .now) (c .before .before .before .before .before .before .args .version .now) (c .before .before .before .before .before .before .args .out .now) (c .before .if1 .left) (c .if2 .taken)
+returns-2 c = not-long _ 4096 _ (c .before .if1 .left) (too-long _ 16384 _ _ (c .if2 .taken))
 
 slice-aggregate-load : tie.Need-slice-aggregate-load
 slice-aggregate-load c = search needs
@@ -39,13 +39,13 @@ same-length-2 : tie.Need-same-length-2
 same-length-2 c = search needs
 
 returns-3 : tie.Need-returns-3
-returns-3 c = let t = load-table _ _ (c .before .before .before .before .before .before .before .before .before .n .given .1) (c .before .before .before .before .before .before .before .before .before .before .before .before .load .ensures) in found-keys (c .before .before .before .before .before .before .before .before .before .before .before .before .before .before .before .before .before .before .before .before .args .keys .now) (c .before .before .before .before .before .before .before .before .before .before .before .before .before .before .before .before .before .before .before .before .args .version .now) (c .before .before .before .before .before .before .before .before .before .before .before .before .before .before .before .before .before .before .before .before .args .out .now) (c .before .before .before .before .before .before .before .before .before .before .before .before .before .before .before .if1 .left) (c .before .before .before .before .before .before .before .before .before .before .before .before .before .before .if2 .left) (t .0) (t .1 .accepted) (c .before .before .before .before .found-under .ensures (t .0) (t .1))
+returns-3 c = let t = load-table _ _ (c .before .before .before .before .before .before .before .before .before .n .given .1) (c .before .before .before .before .before .before .before .before .before .before .before .before .load .ensures) in not-long _ 4096 _ (c .before .before .before .before .before .before .before .before .before .before .before .before .before .before .before .if1 .left) (not-long _ 16384 _ (c .before .before .before .before .before .before .before .before .before .before .before .before .before .before .if2 .left) (step-ok _ (t .0) (t .1 .accepted) (c .before .before .before .before .found-under .ensures (t .0) (t .1))))
 
 returns-4 : tie.Need-returns-4
-returns-4 c = found-3 (c .before .before .before .before .before .before .before .before .before .before .before .args .keys .now) (c .before .before .before .before .before .before .before .before .before .before .before .args .version .now) (c .before .before .before .before .before .before .before .before .before .before .before .args .out .now) (c .before .before .before .before .before .before .if1 .left) (c .before .before .before .before .before .if2 .left) (load-noted _ _ (c .enum-told .given .1) (c .before .before .before .load .ensures))
+returns-4 c = not-long _ 4096 _ (c .before .before .before .before .before .before .if1 .left) (not-long _ 16384 _ (c .before .before .before .before .before .if2 .left) (keys-3 _ _ _ (load-noted _ _ (c .enum-told .given .1) (c .before .before .before .load .ensures))))
 
 returns-5 : tie.Need-returns-5
-returns-5 c = found-4 (c .before .before .before .before .before .before .before .before .before .before .before .args .keys .now) (c .before .before .before .before .before .before .before .before .before .before .before .args .version .now) (c .before .before .before .before .before .before .before .before .before .before .before .args .out .now) (c .before .before .before .before .before .before .if1 .left) (c .before .before .before .before .before .if2 .left) (load-kept _ _ (c .enum-told2 .given .1) (c .before .before .before .load .ensures))
+returns-5 c = not-long _ 4096 _ (c .before .before .before .before .before .before .if1 .left) (not-long _ 16384 _ (c .before .before .before .before .before .if2 .left) (keys-4 _ _ _ (load-kept _ _ (c .enum-told2 .given .1) (c .before .before .before .load .ensures))))
 
 pub found-in-spec : {M : Type 1} → statement M
 found-in-spec =

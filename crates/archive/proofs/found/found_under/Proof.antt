@@ -1,5 +1,7 @@
 -- `found_under` meets its contract.
-use Rattle.archive.specs.FoundLaws.{first-on, received-done, received-back, found-given, found-back}
+use Rattle.archive.specs.Reception.{received-done, received-back}
+use Rattle.archive.specs.Giving.{version-back}
+use Rattle.archive.specs.FoundLaws.{first-on, found-given}
 use borrow.Author.Needs.{needs}
 use Rattle.archive.proofs.found.found_under.Statement.{statement}
 use Rattle.archive.proofs.found.found_under.Tie as tie
@@ -35,7 +37,7 @@ same-length-3 : tie.Need-same-length-3
 same-length-3 c = search needs
 
 returns-2 : tie.Need-returns-2
-returns-2 c = λ K t. found-back (c .before .before .before .before .before .before .before .before .before .before .before .before .before .before .args .out .now) (received-back _ _ _ _ _ (c .before .number .given .1) (c .before .before .before .before .before .before .receive .ensures) K t)
+returns-2 c = λ K t. version-back _ (c .before .before .before .before .before .before .before .before .before .before .before .before .before .before .args .out .now) (received-back _ _ _ _ _ (c .before .number .given .1) (c .before .before .before .before .before .before .receive .ensures) K t)
 
 pub found-under-spec : {M : Type 1} → statement M
 found-under-spec =

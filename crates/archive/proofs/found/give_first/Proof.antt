@@ -2,7 +2,7 @@
 use Rattle.xml.specs.Forest.{write}
 use Rattle.xml.specs.OverLaws.{wrote-over}
 use Rattle.archive.specs.Founding.{firstText}
-use Rattle.archive.specs.FoundLaws.{give-short, give-done}
+use Rattle.archive.specs.Giving.{give-short, give-done}
 use borrow.Author.Needs.{needs}
 use Rattle.archive.proofs.found.give_first.Statement.{statement}
 use Rattle.archive.proofs.found.give_first.Tie as tie
