@@ -5,6 +5,8 @@ use mathlib.Core.Path.{_≡_, refl, sym, _∙_, ap}
 use mathlib.Core.Bool.{true, false}
 use mathlib.Core.Option.{Option, none, some}
 use mathlib.Core.List.{List, [], _++_, append-nil, append-assoc}
+use borrow.Author.Tests.{eqb-true, eqb-false}
+use lib.Dec.{eqb}
 use Rattle.xml.specs.Bytes.{Bytes}
 use Rattle.xml.specs.Forest.{Forest, end, elem, stamp, write, nodes, join}
 use Rattle.xml.specs.Over.{Wrote}
@@ -12,6 +14,7 @@ use Rattle.xml.specs.OverLaws.{wrote-none, wrote-then}
 use Rattle.xml.specs.Tape.{nextAt, headAt, Node, Tape}
 use Rattle.xml.specs.TapeLaws.{Front, front, opening, closing, tape-le, tape-none}
 use Rattle.xml.specs.Complete.{join-assoc}
+use Rattle.xml.specs.Truth.{by-test}
 use Rattle.model.specs.Orders.{labels}
 use Rattle.keys.specs.KeyList.{Path, KeyList, above, keyNamesAt}
 use Rattle.keys.specs.Version.{_▸_, Label, label}
@@ -22,6 +25,7 @@ use Rattle.keys.specs.Table.{placeOf, Table}
 use Rattle.timestamp.specs.Times.{Times}
 use Rattle.archive.specs.Walk.{firstLabel, newest, addNew}
 use Rattle.archive.specs.AddParts.{Holds, sibling, setIn, oldPart, bothPart, opened, closed, orderOf, SetOf, FrontIn, SiblingsIn, VersionIn, element, placeIn, At}
+use Rattle.archive.specs.HistoryTape.{elementAt, element-timed, element-bare}
 use Rattle.archive.specs.AddTurns.{Next, next-element, add-new}
 use Rattle.archive.specs.AddFront.{wrote-join, join-end}
 
@@ -40,6 +44,12 @@ module _ {src cells : List ℕ} {p : ℕ} {o : Option Bytes} {m : Bytes} {k : Fo
       go : (o : Option Bytes) → At src cells p o m k → (headAt cells p % 4 ≡ 2 → ⊥) → P none → P o
       go none a e x = x
       go (some s) a e x = absurd (e (a .outer .kind-is))
+
+-- its element
+pub at-place : {src cells : List ℕ} {p : ℕ} {o : Option Bytes} {m : Bytes} {k : Forest} → At src cells p o m k → elementAt cells p ≡ placeIn o p
+at-place {cells = cells} {p = p} {o = o} a = by-test (eqb (headAt cells p % 4) 2)
+    (λ e. let h = eqb-true (headAt cells p % 4) 2 e in timed-by a (λ z. elementAt cells p ≡ placeIn z p) h (λ s d. element-timed cells p h))
+    (λ e. let h = eqb-false (headAt cells p % 4) 2 e in bare-by a (λ z. elementAt cells p ≡ placeIn z p) h (element-bare cells p h))
 
 pub at-forward : {src cells : List ℕ} {p : ℕ} (o : Option Bytes) {m : Bytes} {k : Forest} → At src cells p o m k → (p ≤ placeIn o p) × (placeIn o p < nextAt cells p)
 at-forward none a = (omega arith, omega (arith, tape-le (a .inner), a .ends))

@@ -1,8 +1,8 @@
 // Adding a version to an archive, both on tapes: the archive's siblings and the version's are walked together by their labels.
 use crate::content::Added;
 use crate::content::write_contents;
+use crate::history::element_at;
 use crate::sibling::close_set;
-use crate::sibling::element_at;
 use crate::sibling::open_set;
 use crate::sibling::order_of;
 use crate::sibling::set_of;

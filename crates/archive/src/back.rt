@@ -1,5 +1,6 @@
 // Writing an archive after a step back to version i: each `T`'s set is cut at i. What is cut to nothing is dropped, what is cut to the
 // set around it is bare, anything else is in a `T`.
+use crate::timed::put_times;
 use timestamp::Timestamp;
 use timestamp::text::parse;
 use xml::tape::view_at;
@@ -13,9 +14,8 @@ ghost use Prim.Native.Nat.{_+_, _*_, _-_, _%_, _^_, _<_, _≤_};
 ghost use Rattle.xml.specs.Forest.{Forest, write as written};
 ghost use Rattle.xml.specs.Over.{Wrote};
 ghost use Rattle.xml.specs.Tape.{headAt, nextAt, Tape};
-ghost use Rattle.xml.specs.TapeLaws.{opening};
 ghost use Rattle.timestamp.specs.Set.{setOf};
-ghost use Rattle.timestamp.specs.Listed.{Only, listed, textOf};
+ghost use Rattle.timestamp.specs.Listed.{Only, listed};
 ghost use Rattle.archive.specs.Walk.{timesIn, backForest};
 ghost use Rattle.archive.specs.Rendered.{Renders};
 ghost use Rattle.archive.specs.Timely.{Timely, LegalText, HoldsTimes};
@@ -29,16 +29,6 @@ pub fn times_to(text: &[u8], i: usize) -> Timestamp
     let read = parse(text);
     let set = read.stamp;
     set.cut(i)
-}
-
-// Writes the opening tag of a `T` with the set t.
-pub fn open_times(t: Timestamp, out: &mut [u8], at: usize) -> usize
-    requires { ⌜ at < 2 ^ 60 ⌝ }
-    ensures { λ r. ⌜ Wrote (now (out .entry)) at (opening false (textOf (setOf (t .words)))) r (now (out .exit)) ⌝ }
-{
-    let times = put_word(b"<T t=\"", out, at);
-    let last = t.put_text(out, times);
-    put_word(b"\">", out, last)
 }
 
 // Writes node p, which stands in an element of the versions `around`.
@@ -73,7 +63,7 @@ fn back_node(
     if around.same(t) {
         return write_back(src, tape, p + 1, v.next, i, t, out, at);
     }
-    let inside = open_times(t, out, at);
+    let inside = put_times(t, out, at);
     let close = write_back(src, tape, p + 1, v.next, i, t, out, inside);
     put_close(false, src, start, end, out, close)
 }
@@ -110,7 +100,7 @@ pub fn back(src: &[u8], tape: &[u32], hi: usize, i: usize, out: &mut [u8], at: u
         → Wrote (now (out .entry)) at (written (backForest i f)) r (now (out .exit))) ⌝ }
 {
     let all = Timestamp::up_to(i);
-    let inside = open_times(all, out, at);
+    let inside = put_times(all, out, at);
     let close = write_back(src, tape, 1, hi, i, all, out, inside);
     put_word(b"</T>", out, close)
 }

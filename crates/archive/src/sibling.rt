@@ -1,4 +1,5 @@
 // A sibling of the archive where a version is added: an element, bare or in a `T` of its own.
+use crate::history::element_at;
 use crate::timed::put_newest;
 use crate::timed::put_timed;
 use crate::timed::put_times;
@@ -22,20 +23,8 @@ ghost use Rattle.keys.specs.Version.{label};
 ghost use Rattle.keys.specs.Placed.{OfPlace};
 ghost use Rattle.timestamp.specs.Times.{Times};
 ghost use Rattle.archive.specs.Walk.{firstLabel, addNew};
-ghost use Rattle.archive.specs.AddParts.{Holds, setIn, oldPart, opened, closed, orderOf, SetOf, VersionIn, placeIn, At};
+ghost use Rattle.archive.specs.AddParts.{Holds, setIn, oldPart, opened, closed, orderOf, SetOf, VersionIn, At};
 ghost use Rattle.archive.specs.AddWalk.{SomeNext};
-
-// The element of the sibling at node p.
-pub fn element_at(tape: &[u32], p: usize) -> usize
-    requires { ⌜ 2 * p + 1 < length (now tape) ⌝ }
-    ensures { λ r. ⌜ ((src : List ℕ) (o : Option Bytes) (m : Bytes) (k : Forest) → At src (now (tape .entry)) p o m k → r ≡ placeIn o p) ⌝ }
-{
-    let v = view_at(tape, p);
-    if v.kind == 2 {
-        return p + 1;
-    }
-    p
-}
 
 // Its set, in an element that stands in the versions `around`.
 pub fn set_of(src: &[u8], tape: &[u32], p: usize, around: Timestamp) -> Timestamp

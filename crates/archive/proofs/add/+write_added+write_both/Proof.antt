@@ -18,7 +18,7 @@ use Rattle.keys.specs.Table.{placeOf, Table}
 use Rattle.timestamp.specs.Times.{Times}
 use Rattle.archive.specs.Walk.{firstLabel, addIn}
 use Rattle.archive.specs.AddParts.{sibling, setIn, bothPart, inside, placeIn, At, Grew}
-use Rattle.archive.specs.AddWalk.{Held, Both, at-front, at-forward}
+use Rattle.archive.specs.AddWalk.{Held, Both, at-front, at-forward, at-place}
 use Rattle.archive.specs.AddWay.{Way, way-none, way-old, way-new, way-both, way-done, nextOf, otherOf, orderAt, order-at, order-same, there, both-of, both-grew, inside-above, inside-front, room-more, room-inner, room-outer, inner-held, opening-short, closing-short}
 use Prim.Native.Nat.{ℕ, _+_, _*_, _-_, _<_, _≤_}
 use borrow.Fn.Kinds.{In}
@@ -31,7 +31,7 @@ use Rattle.archive.proofs.add.write_both.Kinds as write-both-kinds
 use Rattle.archive.proofs.add.+write_added+write_both.Lts-write_both as write-both-lts
 use Rattle.archive.proofs.content.write_contents.Reads as write-contents-reads
 use Rattle.archive.proofs.sibling.close_set.Reads as close-set-reads
-use Rattle.archive.proofs.sibling.element_at.Reads as element-at-reads
+use Rattle.archive.proofs.history.element_at.Reads as element-at-reads
 use Rattle.archive.proofs.sibling.open_set.Reads as open-set-reads
 use Rattle.archive.proofs.sibling.order_of.Reads as order-of-reads
 use Rattle.archive.proofs.sibling.set_of.Reads as set-of-reads
@@ -306,7 +306,7 @@ module _ (t : ℕ) where
 module _ (t : ℕ) where
   -- the element of the sibling
   spot : (c : write-both-lts.After-element-at (write-both-calls t) (write-both-at t) write-both.Post) {o : Option Bytes} {m : Bytes} {k : Forest} → At (c .before .before .before .before .before .before .before .before .args .src .now) (c .before .before .before .before .before .before .before .before .args .tape .now) (c .before .before .before .before .before .before .before .before .args .p) o m k → c .element-at .result ≡ placeIn o (c .before .before .before .before .before .before .before .before .args .p)
-  spot c {o} {m} {k} a = c .element-at .ensures (c .before .before .before .before .before .before .before .before .args .src .now) o m k a
+  spot c a = c .element-at .ensures ∙ at-place a
 
   inner : (c : write-both-lts.After-slice-known3 (write-both-calls t) (write-both-at t) write-both.Post) {K : KeyList} {w : Path} {u : Times} {o : Option Bytes} {m : Bytes} {k f : Forest}
       → Both (c .before .before .before .before .before .before .before .before .before .before .before .before .before .before .before .before .before .before .before .before .args .text .now) (c .before .before .before .before .before .before .before .before .before .before .before .before .before .before .before .before .before .before .before .before .args .table .now) (c .before .before .before .before .before .before .before .before .before .before .before .before .before .before .before .before .before .before .before .before .args .paths) (c .before .before .before .before .before .before .before .before .before .before .before .before .before .before .before .before .before .before .before .before .args .place) (c .before .before .before .before .before .before .before .before .before .before .before .before .before .before .before .before .before .before .before .before .args .src .now) (c .before .before .before .before .before .before .before .before .before .before .before .before .before .before .before .before .before .before .before .before .args .tape .now) (c .before .before .before .before .before .before .before .before .before .before .before .before .before .before .before .before .before .before .before .before .args .p) (c .before .before .before .before .before .before .before .before .before .before .before .before .before .before .before .before .before .before .before .before .args .vsrc .now) (c .before .before .before .before .before .before .before .before .before .before .before .before .before .before .before .before .before .before .before .before .args .vtape .now) (c .before .before .before .before .before .before .before .before .before .before .before .before .before .before .before .before .before .before .before .before .args .q) (c .before .before .before .before .before .before .before .before .before .before .before .before .before .before .before .before .before .before .before .before .args .n) (c .before .before .before .before .before .before .before .before .before .before .before .before .before .before .before .before .before .before .before .before .args .around .words) K w u o m k f

@@ -21,7 +21,7 @@ use Rattle.archive.proofs.back.+back_node+write_back.Lts-back_node as b
 use Rattle.archive.proofs.back.write_back.Reads as write-back
 use Rattle.archive.proofs.back.write_back.Kinds as write-back-kinds
 use Rattle.archive.proofs.back.+back_node+write_back.Lts-write_back as write-back-lts
-use Rattle.archive.proofs.back.open_times.Reads as open-times-reads
+use Rattle.archive.proofs.timed.put_times.Reads as put-times-reads
 use Rattle.archive.proofs.back.times_to.Reads as times-to-reads
 use Rattle.timestamp.proofs.Timestamp.is_empty.Reads as is-empty-reads
 use Rattle.timestamp.proofs.Timestamp.same.Reads as same-reads
@@ -51,7 +51,7 @@ abbrev write-back-below : ℕ → In 3 write-back-kinds.ps
 write-back-below t = and 3 write-back-kinds.ps (falls 3 write-back-kinds.ps _<_ μ-write-back t) write-back.Pre
 
 abbrev back-node-calls : ℕ → back-node-lts.Claims
-back-node-calls t = (view-at-reads.Asked, view-at-reads.Learnt, put-text-reads.Asked, put-text-reads.Learnt, put-open-reads.Asked, put-open-reads.Learnt, write-back-below t, write-back.Post, put-close-reads.Asked, put-close-reads.Learnt, times-to-reads.Asked, times-to-reads.Learnt, is-empty-reads.Asked, is-empty-reads.Learnt, same-reads.Asked, same-reads.Learnt, open-times-reads.Asked, open-times-reads.Learnt)
+back-node-calls t = (view-at-reads.Asked, view-at-reads.Learnt, put-text-reads.Asked, put-text-reads.Learnt, put-open-reads.Asked, put-open-reads.Learnt, write-back-below t, write-back.Post, put-close-reads.Asked, put-close-reads.Learnt, times-to-reads.Asked, times-to-reads.Learnt, is-empty-reads.Asked, is-empty-reads.Learnt, same-reads.Asked, same-reads.Learnt, put-times-reads.Asked, put-times-reads.Learnt)
 
 abbrev write-back-calls : ℕ → write-back-lts.Claims
 write-back-calls t = (back-node-below t, back-node.Post, view-at-reads.Asked, view-at-reads.Learnt)
@@ -168,8 +168,8 @@ module _ (t : ℕ) where
       back-bare (c .before .before .before .before .before .before .before .before .before .before .before .before .before .before .before .before .before .before .args .i) (setOf (c .before .before .before .before .before .before .before .before .before .before .before .before .before .before .before .before .before .before .args .around .words)) (setOf (c .before .before .before .before .before .before .before .before .times-to .result .words)) (low (c .before .before .before .before .before .before .before .before .before .before .before .before .before .before .before .before .before .before)) (c .before .before .before .before .before .before .before .before .before .before .before .before .before .before .before .before .before .before .pre .1 .2) (u .0) (c .before .before .before .before .before .before .before .before .before .before .before .before .before .before .before .before .before .before .pre .1 .0) (times (c .before .before .before .before .before .before .before .before .before .before)) (u .1)
       (sym (c .before .before .before .before .before .before .before .is-empty .ensures) ∙ c .before .before .before .before .before .before .if3 .left) (sym (c .before .before .before .before .before .same .ensures) ∙ c .before .before .before .before .if4 .taken) (rw (c .before .before .before .before .before .before .before .before .before .before .before .before .before .before .view-at .ensures) at (c .before .before .write-back2 .ensures))
 
-  back-node-open-times-requires : back-node-lts.Need-open-times-requires (back-node-calls t) (back-node-at t) back-node.Post
-  back-node-open-times-requires c κs = omega (arith, c .before .before .before .before .before .before .before .before .before .before .before .before .before .before .before .pre .1 .3)
+  back-node-put-times-requires : back-node-lts.Need-put-times-requires (back-node-calls t) (back-node-at t) back-node.Post
+  back-node-put-times-requires c κs = omega (arith, c .before .before .before .before .before .before .before .before .before .before .before .before .before .before .before .pre .1 .3)
 
   back-node-add-write-back-3 : back-node-lts.Need-add-write-back-3 (back-node-calls t) (back-node-at t) back-node.Post
   back-node-add-write-back-3 c = omega (arith, here (c .before .before .before .before .before .before .before .before .before .before .before .before .before .before .before .before .before .before) .held)
@@ -178,7 +178,7 @@ module _ (t : ℕ) where
   back-node-write-back-requires-3 c κs =
       let v = c .before .before .before .before .before .before .before .before .before .before .before .before .before .before .before .view-at .ensures in
       let k = rw v at (c .before .before .before .before .before .before .before .before .before .before .before .before .before .if1 .left) in
-      let o = times-room (setOf (c .before .before .before .before .before .before .before .before .before .times-to .result .words)) (c .before .before .before .open-times .ensures) in
+      let o = times-room (setOf (c .before .before .before .before .before .before .before .before .before .times-to .result .words)) (c .before .before .before .put-times .ensures .0) in
       rw v (omega (arith, c .before .before .before .before .before .before .before .before .before .before .before .before .before .before .before .before .before .before .before .pre .0, c .before .before .before .before .before .before .before .before .before .before .before .before .before .before .before .before .before .before .before .pre .1 .0), (timely-inside (c .before .before .before .before .before .before .before .before .before .before .before .before .before .before .before .before .before .before .before .pre .1 .1) (c .before .before .before .before .before .before .before .before .before .before .before .before .before .before .before .before .before .before .before .pre .1 .0) k, held (c .before .before .before .before .before .before .before .before .before) .0, omega (arith, c .before .before .before .before .before .before .before .before .before .before .before .before .before .before .before .before .before .before .before .pre .1 .3, c .before .before .before .before .before .before .before .before .before .before .before .before .before .before .before .before .before .before .before .pre .1 .0)))
 
   back-node-put-close-requires-2 : back-node-lts.Need-put-close-requires-2 (back-node-calls t) (back-node-at t) back-node.Post
@@ -186,7 +186,7 @@ module _ (t : ℕ) where
       let v = c .before .before .before .before .before .before .before .before .before .before .before .before .before .before .before .before .before .before .before .view-at .ensures in
       let x = timely-inside (c .before .before .before .before .before .before .before .before .before .before .before .before .before .before .before .before .before .before .before .before .before .before .before .pre .1 .1) (c .before .before .before .before .before .before .before .before .before .before .before .before .before .before .before .before .before .before .before .before .before .before .before .pre .1 .0) (rw v at (c .before .before .before .before .before .before .before .before .before .before .before .before .before .before .before .before .before .if1 .left)) in
       let k = rw v at (c .before .before .before .write-back3 .ensures) in
-      let o = times-room (setOf (c .before .before .before .before .before .before .before .before .before .before .before .before .before .times-to .result .words)) (c .before .before .before .before .before .before .before .open-times .ensures) in
+      let o = times-room (setOf (c .before .before .before .before .before .before .before .before .before .before .before .before .before .times-to .result .words)) (c .before .before .before .before .before .before .before .put-times .ensures .0) in
       rw v (omega (arith, here (c .before .before .before .before .before .before .before .before .before .before .before .before .before .before .before .before .before .before .before .before .before .before .before) .within, k (x .forest) (x .tape) .place, back-length (c .before .before .before .before .before .before .before .before .before .before .before .before .before .before .before .before .before .before .before .before .before .before .before .args .i) (listed (c .before .before .before .before .before .before .before .before .before .before .before .before .before .before .before .before .before .before .before .before .before .before .before .args .i) (setOf (c .before .before .before .before .before .before .before .before .before .before .before .before .before .times-to .result .words))) x, c .before .before .before .before .before .before .before .before .before .before .before .before .before .before .before .before .before .before .before .before .before .before .before .pre .1 .3, c .before .before .before .before .before .before .before .before .before .before .before .before .before .before .before .before .before .before .before .before .before .before .before .pre .1 .0))
 
   back-node-same-length-4 : back-node-lts.Need-same-length-4 (back-node-calls t) (back-node-at t) back-node.Post
@@ -197,7 +197,7 @@ module _ (t : ℕ) where
       let u = held (c .before .before .before .before .before .before .before .before .before .before .before .before .before .before .before .before) in
       let v = c .before .before .before .before .before .before .before .before .before .before .before .before .before .before .before .before .before .before .before .before .before .before .view-at .ensures in
       back-wrapped (c .before .before .before .before .before .before .before .before .before .before .before .before .before .before .before .before .before .before .before .before .before .before .before .before .before .before .args .i) (setOf (c .before .before .before .before .before .before .before .before .before .before .before .before .before .before .before .before .before .before .before .before .before .before .before .before .before .before .args .around .words)) (setOf (c .before .before .before .before .before .before .before .before .before .before .before .before .before .before .before .before .times-to .result .words)) (low (c .before .before .before .before .before .before .before .before .before .before .before .before .before .before .before .before .before .before .before .before .before .before .before .before .before .before)) (c .before .before .before .before .before .before .before .before .before .before .before .before .before .before .before .before .before .before .before .before .before .before .before .before .before .before .pre .1 .2) (u .0) (c .before .before .before .before .before .before .before .before .before .before .before .before .before .before .before .before .before .before .before .before .before .before .before .before .before .before .pre .1 .0) (times (c .before .before .before .before .before .before .before .before .before .before .before .before .before .before .before .before .before .before)) (u .1)
-      (sym (c .before .before .before .before .before .before .before .before .before .before .before .before .before .before .before .is-empty .ensures) ∙ c .before .before .before .before .before .before .before .before .before .before .before .before .before .before .if3 .left) (sym (c .before .before .before .before .before .before .before .before .before .before .before .before .before .same .ensures) ∙ c .before .before .before .before .before .before .before .before .before .before .before .before .if4 .left) (c .before .before .before .before .before .before .before .before .before .before .open-times .ensures) (rw v at (c .before .before .before .before .before .before .write-back3 .ensures)) (rw v at (c .before .before .put-close2 .ensures))
+      (sym (c .before .before .before .before .before .before .before .before .before .before .before .before .before .before .before .is-empty .ensures) ∙ c .before .before .before .before .before .before .before .before .before .before .before .before .before .before .if3 .left) (sym (c .before .before .before .before .before .before .before .before .before .before .before .before .before .same .ensures) ∙ c .before .before .before .before .before .before .before .before .before .before .before .before .if4 .left) (c .before .before .before .before .before .before .before .before .before .before .put-times .ensures .0) (rw v at (c .before .before .before .before .before .before .write-back3 .ensures)) (rw v at (c .before .before .put-close2 .ensures))
 
 module _ (t : ℕ) where
   turn : (c : write-back-lts.In-loop (write-back-calls t) (write-back-at t) write-back.Post write-back-Inv-loop write-back-μ-loop) → Front (c .before .before .before .before .before .args .src .now) (c .before .before .before .before .before .args .tape .now) (c .before .loop .p) (c .before .before .before .before .before .args .hi)
@@ -236,5 +236,5 @@ module _ (t : ℕ) where
 pub +back-node+write-back-spec : {M : Type 1} → statement M
 +back-node+write-back-spec =
     close μ-back-node μ-write-back
-    (λ t. back-node-lts.spec (back-node-calls t) (back-node-at t) back-node.Post (back-node-view-at-requires t) (back-node-put-text-requires t) (back-node-same-length t) (back-node-returns t) (back-node-put-open-requires t) (back-node-add-write-back t) (back-node-write-back-requires t) (back-node-put-close-requires t) (back-node-same-length-2 t) (back-node-returns-2 t) (back-node-sub-times-to t) (back-node-part-times-to-start t) (back-node-part-times-to-end t) (back-node-times-to-requires t) (back-node-is-empty-requires t) (back-node-returns-3 t) (back-node-same-requires t) (back-node-add-write-back-2 t) (back-node-write-back-requires-2 t) (back-node-same-length-3 t) (back-node-returns-4 t) (back-node-open-times-requires t) (back-node-add-write-back-3 t) (back-node-write-back-requires-3 t) (back-node-put-close-requires-2 t) (back-node-same-length-4 t) (back-node-returns-5 t))
+    (λ t. back-node-lts.spec (back-node-calls t) (back-node-at t) back-node.Post (back-node-view-at-requires t) (back-node-put-text-requires t) (back-node-same-length t) (back-node-returns t) (back-node-put-open-requires t) (back-node-add-write-back t) (back-node-write-back-requires t) (back-node-put-close-requires t) (back-node-same-length-2 t) (back-node-returns-2 t) (back-node-sub-times-to t) (back-node-part-times-to-start t) (back-node-part-times-to-end t) (back-node-times-to-requires t) (back-node-is-empty-requires t) (back-node-returns-3 t) (back-node-same-requires t) (back-node-add-write-back-2 t) (back-node-write-back-requires-2 t) (back-node-same-length-3 t) (back-node-returns-4 t) (back-node-put-times-requires t) (back-node-add-write-back-3 t) (back-node-write-back-requires-3 t) (back-node-put-close-requires-2 t) (back-node-same-length-4 t) (back-node-returns-5 t))
     (λ t. write-back-lts.spec (write-back-calls t) (write-back-at t) write-back.Post write-back-Inv-loop write-back-μ-loop (write-back-loop-holds t) (write-back-back-node-requires t) (write-back-view-at-requires t) (write-back-loop-less t) (write-back-loop-again t) (write-back-same-length t) (write-back-returns t))

@@ -12,12 +12,12 @@ use Rattle.archive.proofs.back.back.Tie as tie
 up-to-requires : tie.Need-up-to-requires
 up-to-requires c κs = search needs
 
-open-times-requires : tie.Need-open-times-requires
-open-times-requires c κs = search needs
+put-times-requires : tie.Need-put-times-requires
+put-times-requires c κs = search needs
 
 write-back-requires : tie.Need-write-back-requires
 write-back-requires c κs =
-    let o = times-room (setOf (c .before .before .before .before .before .up-to .result .words)) (c .before .before .before .open-times .ensures) in
+    let o = times-room (setOf (c .before .before .before .before .before .up-to .result .words)) (c .before .before .before .put-times .ensures .0) in
     (timely-whole (c .before .before .before .before .before .before .before .before .before .pre .3) (c .before .before .before .before .before .before .before .before .before .pre .0) (c .before .before .before .before .before .before .before .before .before .pre .1) (c .before .before .before .before .before .before .before .before .before .pre .2), rw (c .before .before .before .before .before .up-to .ensures) (only-up-to (c .before .before .before .before .before .before .before .before .before .args .i)), omega (arith, c .before .before .before .before .before .before .before .before .before .pre .0, c .before .before .before .before .before .before .before .before .before .pre .4))
 
 slice-aggregate-put-word : tie.Need-slice-aggregate-put-word
@@ -25,7 +25,7 @@ slice-aggregate-put-word c = search needs
 
 put-word-requires : tie.Need-put-word-requires
 put-word-requires c κs =
-    let o = times-room (setOf (c .before .before .before .before .before .before .before .before .before .before .up-to .result .words)) (c .before .before .before .before .before .before .before .before .open-times .ensures) in
+    let o = times-room (setOf (c .before .before .before .before .before .before .before .before .before .before .up-to .result .words)) (c .before .before .before .before .before .before .before .before .put-times .ensures .0) in
     let x = timely-whole (c .before .before .before .before .before .before .before .before .before .before .before .before .before .before .pre .3) (c .before .before .before .before .before .before .before .before .before .before .before .before .before .before .pre .0) (c .before .before .before .before .before .before .before .before .before .before .before .before .before .before .pre .1) (c .before .before .before .before .before .before .before .before .before .before .before .before .before .before .pre .2) in
     omega (arith, c .before .before .before .before .before .before .before .before .before .before .before .before .before .before .pre .0, c .before .before .before .before .before .before .before .before .before .before .before .before .before .before .pre .4, c .before .before .before .before .write-back .ensures (x .forest) (x .tape) .place, back-length (c .before .before .before .before .before .before .before .before .before .before .before .before .before .before .args .i) (listed (c .before .before .before .before .before .before .before .before .before .before .before .before .before .before .args .i) (setOf (c .before .before .before .before .before .before .before .before .before .before .up-to .result .words))) x)
 
@@ -36,14 +36,14 @@ returns : tie.Need-returns
 unfolding bytes
 returns c =
     back-whole (c .before .before .before .before .before .before .before .before .before .before .before .before .before .before .before .before .before .args .i) (setOf (c .before .before .before .before .before .before .before .before .before .before .before .before .before .up-to .result .words)) (omega (arith, c .before .before .before .before .before .before .before .before .before .before .before .before .before .before .before .before .before .pre .3 .reach, c .before .before .before .before .before .before .before .before .before .before .before .before .before .before .before .before .before .pre .3 .small)) (c .before .before .before .before .before .before .before .before .before .before .before .before .before .up-to .ensures) (c .before .before .before .before .before .before .before .before .before .before .before .before .before .before .before .before .before .pre .0) (c .before .before .before .before .before .before .before .before .before .before .before .before .before .before .before .before .before .pre .1) (c .before .before .before .before .before .before .before .before .before .before .before .before .before .before .before .before .before .pre .2)
-    (c .before .before .before .before .before .before .before .before .before .before .before .open-times .ensures) (c .before .before .before .before .before .before .before .write-back .ensures) (c .before .before .put-word .ensures)
+    (c .before .before .before .before .before .before .before .before .before .before .before .put-times .ensures .0) (c .before .before .before .before .before .before .before .write-back .ensures) (c .before .before .put-word .ensures)
 
 pub back-spec : {M : Type 1} → statement M
 back-spec =
     tie.close
     (tie.spec
     up-to-requires
-    open-times-requires
+    put-times-requires
     write-back-requires
     slice-aggregate-put-word
     put-word-requires

@@ -3,7 +3,7 @@ use native.Mathlib.Omega.{arith}
 use mathlib.Core.Path.{sym, _∙_}
 use Rattle.keys.specs.Version.{label}
 use Rattle.archive.specs.AddTurns.{next-element}
-use Rattle.archive.specs.AddWalk.{at-front, order-none, order-some}
+use Rattle.archive.specs.AddWalk.{at-place, at-front, order-none, order-some}
 use Rattle.archive.proofs.sibling.order_of.Statement.{statement}
 use Rattle.archive.proofs.sibling.order_of.Tie as tie
 
@@ -17,7 +17,7 @@ compare-labels-requires : tie.Need-compare-labels-requires
 compare-labels-requires c κs =
     let g = c .before .before .before .before .before .before .before .before .pre in
     let s = next-element (g .vtape) (g .version) (omega (arith, c .before .if1 .left)) in
-    rw (c .element-at .ensures (c .before .before .before .before .before .before .before .before .args .src .now) (g .own) (g .name) (g .kids) (g .at)) (
+    rw (c .element-at .ensures ∙ at-place (g .at)) (
       record { keyList = g .keyList; path = g .path; tabled = g .tabled; place-is = g .place-is; name = g .name; kids = g .kids; node = g .at .node; tape = g .at .inner; once = g .keys },
       record { keyList = g .keyList; path = g .path; tabled = g .tabled; place-is = g .place-is; name = s .name; kids = s .kids; node = s .node; tape = s .inner; once = s .keys },
     )
@@ -25,7 +25,7 @@ compare-labels-requires c κs =
 returns-2 : tie.Need-returns-2
 returns-2 c K w t e o m k v a h x =
     let s = next-element h x (omega (arith, c .before .before .if1 .left)) in
-    (rw (c .before .element-at .ensures (c .before .before .before .before .before .before .before .before .before .args .src .now) o m k a) at (c .compare-labels .ensures)) K w t e m k (s .name) (s .kids) (a .node) (a .inner) (s .node) (s .inner) ∙ sym (order-some (label K w m k) s)
+    (rw (c .before .element-at .ensures ∙ at-place a) at (c .compare-labels .ensures)) K w t e m k (s .name) (s .kids) (a .node) (a .inner) (s .node) (s .inner) ∙ sym (order-some (label K w m k) s)
 
 pub order-of-spec : {M : Type 1} → statement M
 order-of-spec = tie.close (tie.spec returns element-at-requires compare-labels-requires returns-2)
