@@ -67,8 +67,16 @@ pub mod CheckLaws
 pub mod Giving
 pub mod Founding
 pub mod FoundLaws
-pub mod Runs
 pub mod LegalKeys
 pub mod LegalTimes
 pub mod LegalSteps
 pub mod LegalGoing
+pub mod NodeCount
+pub mod OuterTimes
+pub mod LegalWhole
+pub mod Opened
+pub mod OpenedLaws
+pub mod Asking
+pub mod RetrieveLaws
+pub mod BackCall
+pub mod Runs

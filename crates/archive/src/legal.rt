@@ -57,7 +57,7 @@ pub fn has_keys(
 }
 
 // The nodes lo to hi are one element and nothing else.
-fn is_sole(tape: &[u32], lo: usize, hi: usize) -> bool
+pub fn is_sole(tape: &[u32], lo: usize, hi: usize) -> bool
     requires { ⌜ (lo < hi → 2 * lo + 1 < length (now tape)) ⌝ }
     ensures { λ r. ⌜ ((src : Bytes) (f : Forest) → Tape src (now (tape .entry)) lo hi f → r ≡ isSole f) ⌝ }
 {

@@ -1,0 +1,76 @@
+-- The calls that ask for one of an archive's versions by its number: their steps, the archive on the tape, and a law for each answer.
+use Prim.Native.Nat.{ℕ, _<_, _≤_}
+use mathlib.Core.Path.{_≡_, refl, sym, subst}
+use mathlib.Core.Bool.{true, false, not, _&&_}
+use mathlib.Core.List.{List}
+use lib.Dec.{leb}
+use lib.ListN.{length}
+use borrow.Author.Tests.{le-leb, lt-leb}
+use Rattle.xml.specs.Bytes.{Bytes}
+use Rattle.xml.specs.Forest.{Forest}
+use Rattle.xml.specs.Tape.{Tape}
+use Rattle.keys.specs.Result.{Result, numberOf, _>>=_, _>>_, refuse, r11}
+use Rattle.keys.specs.KeyList.{KeyList, keyList}
+use Rattle.keys.specs.Table.{Table}
+use Rattle.keys.specs.Loading.{Tabled}
+use Rattle.archive.specs.Archive.{lastVersion}
+use Rattle.archive.specs.Calls.{atMost, give}
+use Rattle.archive.specs.Walk.{archiveRead}
+use Rattle.archive.specs.AllTimed.{legal-last}
+use Rattle.archive.specs.Opened.{ArchiveOn}
+use Rattle.archive.specs.Giving.{Gives, step-ok, test-refused, test-passed}
+
+-- the last steps, where i of n versions is asked for and s is to be given
+abbrev pub asked : ℕ → ℕ → ℕ → Bytes → Result Bytes
+asked n i out s = do
+  refuse r11 (not (leb 1 i && leb i n))
+  give out s
+
+-- the steps under a key list, where w of the archive's forest is to be given
+abbrev pub askedOf : (Forest → Bytes) → KeyList → Bytes → ℕ → ℕ → Result Bytes
+askedOf w K s i out = do
+  f ← archiveRead K s
+  asked (lastVersion f) i out (w f)
+
+-- all steps but the first
+abbrev pub askedIn : (Forest → Bytes) → Bytes → Bytes → ℕ → ℕ → Result Bytes
+askedIn w keys s i out = do
+  atMost 4096 keys
+  atMost 32768 s
+  K ← keyList keys
+  askedOf w K s i out
+
+-- an archive of n versions, legal under some key list, lies on the tape
+pub record Lies (src cells : List ℕ) (hi n : ℕ) : Type 0 where
+  pub keys : KeyList
+  pub archive : ArchiveOn keys src cells hi n
+
+-- so it is where an archive was opened
+pub opened-lies : {keyText : Bytes} {table : List ℕ} {paths : ℕ} {src cells : List ℕ} {hi n : ℕ} → Tabled keyText table paths
+    → ((K : KeyList) → Table keyText table paths K → ArchiveOn K src cells hi n) → Lies src cells hi n
+opened-lies t x = record { keys = t .keys; archive = x (t .keys) (t .table) }
+
+-- its versions are 999 at most
+pub lies-few : {src cells : List ℕ} {hi n : ℕ} → Lies src cells hi n → n ≤ 999
+lies-few x = subst (λ k. k ≤ 999) (x .archive .last) (legal-last (x .keys) (x .archive .forest) (x .archive .legal))
+
+-- the steps under a key list, from the last ones
+pub asked-given : (w : Forest → Bytes) (i : ℕ) {K : KeyList} {src cells : List ℕ} {hi n number size : ℕ} {out left : List ℕ} → ArchiveOn K src cells hi n
+    → ((f : Forest) → Tape src cells 0 hi f → Gives (asked n i (length out) (w f)) number size out left) → Gives (askedOf w K src i (length out)) number size out left
+asked-given w i {number = number} {size = size} {out = out} {left = left} a g =
+    let f = a .forest in
+    step-ok _ f (a .is) (subst (λ k. Gives (asked k i (length out) (w f)) number size out left) (sym (a .last)) (g f (a .tape)))
+
+-- ---- the last steps: there is no version 0, and none after n (11); else 14 is left
+module _ (n i : ℕ) (s : Bytes) (out : List ℕ) where
+  pub asked-none : i < 1 → Gives (asked n i (length out) s) 11 0 out out
+  unfolding numberOf
+  asked-none l = let e : not (leb 1 i && leb i n) ≡ true = rw (lt-leb 1 i l) in test-refused _ r11 out e refl refl
+
+  pub asked-past : 1 ≤ i → n < i → Gives (asked n i (length out) s) 11 0 out out
+  unfolding numberOf
+  asked-past b l = let e : not (leb 1 i && leb i n) ≡ true = rw (le-leb 1 i b, lt-leb i n l) in test-refused _ r11 out e refl refl
+
+  pub asked-there : {number size : ℕ} {left : List ℕ} → 1 ≤ i → i ≤ n → Gives (give (length out) s) number size out left
+      → Gives (asked n i (length out) s) number size out left
+  asked-there b l g = let e : not (leb 1 i && leb i n) ≡ false = rw (le-leb 1 i b, le-leb i n l) in test-passed _ r11 e g
