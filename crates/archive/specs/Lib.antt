@@ -79,4 +79,6 @@ pub mod OpenedLaws
 pub mod Asking
 pub mod RetrieveLaws
 pub mod BackCall
+pub mod HistoryCall
+pub mod AddCall
 pub mod Runs

@@ -5,6 +5,8 @@ pub mod check_keys;
 pub mod content;
 pub mod found;
 pub mod front;
+pub mod grow;
+pub mod histories;
 pub mod history;
 pub mod legal;
 pub mod open;
