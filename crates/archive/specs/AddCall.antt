@@ -24,7 +24,7 @@ use Rattle.archive.specs.Walk.{archiveRead, addForest, addOn}
 use Rattle.archive.specs.WalkLaws.{adds}
 use Rattle.archive.specs.LegalWhole.{legal-few}
 use Rattle.archive.specs.AllTimed.{legal-last}
-use Rattle.archive.specs.AddParts.{Grew}
+use Rattle.archive.specs.Growth.{Grew}
 use Rattle.archive.specs.AddWhole.{Adding, SomeAdding}
 use Rattle.archive.specs.Reception.{Version}
 use Rattle.archive.specs.Giving.{Gives, gives-same, step-ok, test-refused, test-passed, give-done}

@@ -6,7 +6,6 @@ use mathlib.Core.Option.{Option, none, some}
 use mathlib.Core.List.{List, [], _∷_, _++_}
 use Rattle.xml.specs.Bytes.{Bytes}
 use Rattle.xml.specs.Forest.{Forest, end, elem, text, stamp, write, nodes}
-use Rattle.xml.specs.Over.{Wrote}
 use Rattle.xml.specs.Tape.{nextAt, Node, Tape}
 use Rattle.xml.specs.TapeLaws.{opening, closing}
 use Rattle.model.specs.Orders.{labels}
@@ -19,7 +18,6 @@ use Rattle.timestamp.specs.Times.{Times, writeTimes}
 use Rattle.timestamp.specs.Set.{setOf}
 use Rattle.timestamp.specs.Listed.{listed, Only}
 use Rattle.archive.specs.Walk.{timesIn, canonical, ever, addContent, addIn}
-use Rattle.archive.specs.declared.content.Added.{Added}
 
 -- the words hold the presence list t of n versions
 pub record Holds (n : ℕ) (words : List ℕ) (t : Times) : Type 0 where
@@ -114,10 +112,3 @@ pub record At (src cells : List ℕ) (p : ℕ) (o : Option Bytes) (m : Bytes) (k
   pub node : Node src cells (placeIn o p) 1 m
   pub inner : Tape src cells (placeIn o p + 1) (nextAt cells (placeIn o p)) k
   pub ends : nextAt cells (placeIn o p) ≡ nextAt cells p
-
--- ---- what a function that adds answers: g is written where f stood, with `fresh` nodes more, of `most` at most, in `reach` bytes
-pub record Grew (out : List ℕ) (at : ℕ) (g f : Forest) (most reach : ℕ) (r : Added) (left : List ℕ) : Type 0 where
-  pub wrote : Wrote out at (write g) (r .at) left
-  pub count : nodes g ≡ nodes f + r .fresh
-  pub few : r .fresh ≤ most
-  pub near : r .at ≤ at + reach

@@ -25,7 +25,8 @@ use Rattle.keys.specs.Table.{placeOf, Table}
 use Rattle.timestamp.specs.Times.{Times}
 use Rattle.archive.specs.Walk.{firstLabel, newest, addContent, addNew, addIn}
 use Rattle.archive.specs.Sizes.{nodes-join}
-use Rattle.archive.specs.AddParts.{Holds, sibling, setIn, oldPart, bothPart, opened, closed, inside, orderOf, SiblingsIn, VersionIn, placeIn, At, Grew}
+use Rattle.archive.specs.AddParts.{Holds, sibling, setIn, oldPart, bothPart, opened, closed, inside, orderOf, SiblingsIn, VersionIn, placeIn, At}
+use Rattle.archive.specs.Growth.{Grew}
 use Rattle.archive.specs.AddTurns.{First, first-sibling, Next, next-element, turn-old, turn-both, turn-new, alike, nodes-new}
 use Rattle.archive.specs.AddFront.{wrote-join, plain-count}
 use Rattle.archive.specs.AddWalk.{Held, Both, both-wrote, both-nodes, old-nodes, order-none, order-some}

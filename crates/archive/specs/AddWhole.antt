@@ -23,11 +23,12 @@ use Rattle.timestamp.specs.Set.{setOf, upTo}
 use Rattle.timestamp.specs.Listed.{listed, textOf, Only, listed-up-to, only-up-to, text-up-to}
 use Rattle.archive.specs.Archive.{lastVersion}
 use Rattle.archive.specs.Walk.{isSole, siblingsLegal, allSmall, insideOf, forestLegal, addIn, addForest}
-use Rattle.archive.specs.AddParts.{Holds, inside, SiblingsIn, Grew}
+use Rattle.archive.specs.AddParts.{Holds, inside, SiblingsIn}
+use Rattle.archive.specs.Growth.{Grew}
 use Rattle.archive.specs.AddLegal.{siblings-in, legal-version-in}
 use Rattle.archive.specs.AddWalk.{Held}
 use Rattle.archive.specs.AddWay.{inside-above}
-use Rattle.archive.specs.TimedLaws.{wrote-timed}
+use Rattle.archive.specs.TimedLaws.{up-to-holds, up-to-text, wrote-timed}
 use Rattle.archive.specs.declared.content.Added.{Added}
 
 -- the nodes below hi are a legal archive of n versions, and those below vhi of the other tape a legal version
@@ -44,13 +45,6 @@ pub record SomeAdding (text : Bytes) (table : List ℕ) (n-paths : ℕ) (src cel
   pub forest : Forest
   pub other : Forest
   pub adding : Adding text table n-paths src cells hi vsrc vcells vhi n keyList forest other
-
--- the sets of all versions
-pub up-to-holds : {words : List ℕ} (n : ℕ) → setOf words ≡ upTo n → Holds n words (always n)
-up-to-holds {words} n e = record { only = subst (Only n) (sym e) (only-up-to n); listed-is = ap (listed n) e ∙ listed-up-to n }
-
-pub up-to-text : (n : ℕ) (s : ℕ → Bool) → n ≤ 998 → s ≡ upTo (n + 1) → textOf s ≡ writeTimes (always (suc n))
-up-to-text n s h e = ap textOf (e ∙ ap upTo (add-one n)) ∙ text-up-to (suc n) (omega arith)
 
 -- ---- the outer `T`
 end-is : (r : Forest) → isEnd r ≡ true → r ≡ end

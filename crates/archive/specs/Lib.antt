@@ -50,6 +50,7 @@ pub mod Small
 pub mod Layered
 pub mod SmallLaws
 pub mod AddParts
+pub mod Growth
 pub mod AddTurns
 pub mod AddLegal
 pub mod TimedLaws

@@ -2,7 +2,7 @@
 use Prim.Native.Nat.{ℕ, suc, _+_, _-_, _≤_}
 use native.Mathlib.Omega.{arith}
 use native.Mathlib.Numerals.{add-one}
-use mathlib.Core.Path.{_≡_, sym, _∙_, ap}
+use mathlib.Core.Path.{_≡_, sym, _∙_, ap, subst}
 use mathlib.Core.Bool.{Bool, true, false}
 use mathlib.Core.List.{List, [], _∷_, _++_, append-nil}
 use lib.ListN.{take, drop}
@@ -13,10 +13,10 @@ use Rattle.xml.specs.Over.{Wrote}
 use Rattle.xml.specs.OverLaws.{wrote-then}
 use Rattle.xml.specs.TapeLaws.{opening, slice-part}
 use Rattle.xml.specs.Truth.{clash}
-use Rattle.timestamp.specs.Times.{Times, onlyAfter, writeTimes}
+use Rattle.timestamp.specs.Times.{Times, always, onlyAfter, writeTimes}
 use Rattle.timestamp.specs.Set.{setOf, none, adding, upTo, subset}
 use Rattle.timestamp.specs.Tests.{subset-tells}
-use Rattle.timestamp.specs.Listed.{textOf, listed-adding, listed-newest, only-adding, only-none, only-up-to, text-listed}
+use Rattle.timestamp.specs.Listed.{listed, Only, textOf, listed-adding, listed-newest, listed-up-to, only-adding, only-none, only-up-to, text-listed, text-up-to}
 use Rattle.timestamp.specs.Short.{text-short}
 use Rattle.timestamp.specs.Parse.{parsed, pickOutcome, outcome}
 use Rattle.timestamp.specs.Parses.{text-parse}
@@ -73,3 +73,10 @@ wrote-newest n s f h e x = rw (newest-text n s h e) at x
 -- a part of a text, as it is lent
 pub part-slice : (a e : ℕ) (l : Bytes) → a ≤ e → take (e - a) (drop a l) ≡ slice a e l
 part-slice a e l h = let z : a + (e - a) ≡ e = omega arith in sym (slice-part a (e - a) l) ∙ ap (λ x. slice a x l) z
+
+-- ---- the sets of all versions
+pub up-to-holds : {words : List ℕ} (n : ℕ) → setOf words ≡ upTo n → Holds n words (always n)
+up-to-holds {words} n e = record { only = subst (Only n) (sym e) (only-up-to n); listed-is = ap (listed n) e ∙ listed-up-to n }
+
+pub up-to-text : (n : ℕ) (s : ℕ → Bool) → n ≤ 998 → s ≡ upTo (n + 1) → textOf s ≡ writeTimes (always (suc n))
+up-to-text n s h e = ap textOf (e ∙ ap upTo (add-one n)) ∙ text-up-to (suc n) (omega arith)

@@ -27,7 +27,8 @@ ghost use Rattle.keys.specs.KeyList.{Path, KeyList};
 ghost use Rattle.keys.specs.Version.{_▸_};
 ghost use Rattle.timestamp.specs.Times.{Times};
 ghost use Rattle.archive.specs.Walk.{addForest};
-ghost use Rattle.archive.specs.AddParts.{sibling, setIn, bothPart, inside, Grew};
+ghost use Rattle.archive.specs.AddParts.{sibling, setIn, bothPart, inside};
+ghost use Rattle.archive.specs.Growth.{Grew};
 ghost use Rattle.archive.specs.AddWalk.{Held, SomeHeld, Both, SomeBoth};
 ghost use Rattle.archive.specs.AddWhole.{Adding, SomeAdding};
 

@@ -14,7 +14,8 @@ ghost use Rattle.xml.specs.Tape.{Tape, Valid};
 ghost use Rattle.keys.specs.Legal.{untimed};
 ghost use Rattle.timestamp.specs.Times.{Times};
 ghost use Rattle.archive.specs.Walk.{addBranch, addBare, addContent};
-ghost use Rattle.archive.specs.AddParts.{Holds, BranchesIn, FrontIn, Grew};
+ghost use Rattle.archive.specs.AddParts.{Holds, BranchesIn, FrontIn};
+ghost use Rattle.archive.specs.Growth.{Grew};
 
 // The place after what was written, and how many nodes the version brought that the archive lacked.
 pub struct Added {

@@ -17,7 +17,8 @@ use Rattle.keys.specs.Version.{_▸_, label}
 use Rattle.keys.specs.Table.{placeOf, Table}
 use Rattle.timestamp.specs.Times.{Times}
 use Rattle.archive.specs.Walk.{firstLabel, addIn}
-use Rattle.archive.specs.AddParts.{sibling, setIn, bothPart, inside, placeIn, At, Grew}
+use Rattle.archive.specs.AddParts.{sibling, setIn, bothPart, inside, placeIn, At}
+use Rattle.archive.specs.Growth.{Grew}
 use Rattle.archive.specs.AddWalk.{Held, Both, at-front, at-forward, at-place}
 use Rattle.archive.specs.AddWay.{Way, way-none, way-old, way-new, way-both, way-done, nextOf, otherOf, orderAt, order-at, order-same, there, both-of, both-grew, inside-above, inside-front, room-more, room-inner, room-outer, inner-held, opening-short, closing-short}
 use Prim.Native.Nat.{ℕ, _+_, _*_, _-_, _<_, _≤_}

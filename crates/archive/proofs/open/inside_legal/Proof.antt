@@ -12,7 +12,7 @@ use Rattle.keys.specs.Table.{Table}
 use Rattle.timestamp.specs.Times.{Times, always}
 use Rattle.archive.specs.Walk.{siblingsLegal}
 use Rattle.archive.specs.AddParts.{Holds}
-use Rattle.archive.specs.AddWhole.{up-to-holds}
+use Rattle.archive.specs.TimedLaws.{up-to-holds}
 use Rattle.archive.specs.LegalWhole.{inside-many, inside-crowd, inside-unlawful, inside-rest, inside-walk}
 use borrow.Author.Needs.{needs}
 use Rattle.archive.proofs.open.inside_legal.Statement.{statement}
