@@ -1,0 +1,6 @@
+//! A plain implementation of document 01's six calls, and what the benchmark measures.
+
+pub mod plain;
+pub mod rounds;
+pub mod station;
+pub mod workloads;

@@ -1,0 +1,139 @@
+//! Document 01's six calls, plain and fast: what one would write for speed, without proofs.
+//!
+//! Texts are read in one pass into flat arrays; siblings are merged by two pointers; an archive
+//! is checked where it stands, and unchanged parts of it are copied as they are. The work is on
+//! the heap, so there is no refusal 1, which the C entries can't return either.
+
+mod address;
+mod archive;
+mod keys;
+mod text;
+mod timestamp;
+mod version;
+mod writing;
+
+use keys::KeyList;
+
+/// A result, or the number of a refusal.
+type Outcome<R> = Result<R, u32>;
+
+const KEY_LIST_BYTES: usize = 4_096;
+const VERSION_BYTES: usize = 16_384;
+const ARCHIVE_BYTES: usize = 32_768;
+const ADDRESS_BYTES: usize = 2_560;
+const VERSION_NODES: u32 = 512;
+const ARCHIVE_NODES: u32 = 1_024;
+const DEPTH: usize = 16;
+const VERSIONS: u16 = 999;
+
+/// Check a key list.
+pub fn check_keys(keys: &[u8]) -> (u32, usize) {
+    answer(|| {
+        within(keys, KEY_LIST_BYTES)?;
+        KeyList::read(keys)?;
+        Ok(0)
+    })
+}
+
+/// Found an archive from version 1.
+pub fn found(keys: &[u8], version: &[u8], out: &mut [u8]) -> (u32, usize) {
+    answer(|| {
+        within(keys, KEY_LIST_BYTES)?;
+        within(version, VERSION_BYTES)?;
+        let keys = KeyList::read(keys)?;
+        let version = version::read(&keys, version)?;
+        let mut bytes = Vec::with_capacity(version.length + 13);
+        bytes.extend_from_slice(b"<T t=\"1\">");
+        version.write(&keys, 0, &mut bytes);
+        bytes.extend_from_slice(archive::CLOSE_T);
+        give(&bytes, out)
+    })
+}
+
+/// Add a version.
+pub fn add(keys: &[u8], archive: &[u8], version: &[u8], out: &mut [u8]) -> (u32, usize) {
+    answer(|| {
+        within(keys, KEY_LIST_BYTES)?;
+        within(archive, ARCHIVE_BYTES)?;
+        within(version, VERSION_BYTES)?;
+        let keys = KeyList::read(keys)?;
+        let version = version::read(&keys, version)?;
+        let archive = archive::read(&keys, archive, 0).ok_or(10u32)?;
+        if archive.n == VERSIONS {
+            return Err(11);
+        }
+        let (bytes, nodes) = writing::added(&keys, &archive, &version);
+        if nodes > ARCHIVE_NODES || bytes.len() > ARCHIVE_BYTES {
+            return Err(13);
+        }
+        give(&bytes, out)
+    })
+}
+
+/// Retrieve version i.
+pub fn retrieve(keys: &[u8], archive: &[u8], i: usize, out: &mut [u8]) -> (u32, usize) {
+    answer(|| {
+        within(keys, KEY_LIST_BYTES)?;
+        within(archive, ARCHIVE_BYTES)?;
+        let keys = KeyList::read(keys)?;
+        let archive = archive::read(&keys, archive, i).ok_or(10u32)?;
+        standing(i, archive.n)?;
+        give(&writing::retrieved(&keys, &archive), out)
+    })
+}
+
+/// Give the history of an address.
+pub fn history(keys: &[u8], archive: &[u8], address: &[u8], out: &mut [u8]) -> (u32, usize) {
+    answer(|| {
+        within(keys, KEY_LIST_BYTES)?;
+        within(archive, ARCHIVE_BYTES)?;
+        within(address, ADDRESS_BYTES)?;
+        let keys = KeyList::read(keys)?;
+        let archive = archive::read(&keys, archive, 0).ok_or(10u32)?;
+        let address = address::read(&keys, address).ok_or(12u32)?;
+        give(address.history(&keys, &archive).of(archive.text), out)
+    })
+}
+
+/// Step back to version i.
+pub fn back(keys: &[u8], archive: &[u8], i: usize, out: &mut [u8]) -> (u32, usize) {
+    answer(|| {
+        within(keys, KEY_LIST_BYTES)?;
+        within(archive, ARCHIVE_BYTES)?;
+        let keys = KeyList::read(keys)?;
+        let archive = archive::read(&keys, archive, i).ok_or(10u32)?;
+        let i = standing(i, archive.n)?;
+        give(&writing::stepped_back(&keys, &archive, i), out)
+    })
+}
+
+/// Number and length.
+fn answer(call: impl FnOnce() -> Outcome<usize>) -> (u32, usize) {
+    match call() {
+        Ok(length) => (0, length),
+        Err(number) => (number, 0),
+    }
+}
+
+/// 2: a text's size.
+fn within(text: &[u8], most: usize) -> Outcome<()> {
+    if text.len() > most {
+        return Err(2);
+    }
+    Ok(())
+}
+
+/// 11: i in 1 to n.
+fn standing(i: usize, n: u16) -> Outcome<u16> {
+    if i < 1 || i > n as usize {
+        return Err(11);
+    }
+    Ok(i as u16)
+}
+
+/// 14: the result goes to the output's first bytes.
+fn give(result: &[u8], out: &mut [u8]) -> Outcome<usize> {
+    let place = out.get_mut(..result.len()).ok_or(14u32)?;
+    place.copy_from_slice(result);
+    Ok(result.len())
+}

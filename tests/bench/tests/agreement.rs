@@ -1,0 +1,60 @@
+//! Plain gives what the reference gives, and what document 01 says of the record.
+
+use bench::plain;
+use bench::rounds::{damaged_workload, large_versions};
+use bench::station::Plain;
+use bench::workloads;
+use compare::comparison::Comparison;
+use compare::limits;
+
+fn no_difference(c: &Comparison) {
+    assert!(c.differences.is_empty(), "{}", c.summary());
+}
+
+#[test]
+fn the_limits() {
+    let mut c = Comparison::new(&Plain);
+    limits::run(&mut c);
+    no_difference(&c);
+}
+
+#[test]
+fn some_rounds() {
+    let mut c = Comparison::new(&Plain);
+    for number in 0..40 {
+        compare::round(&mut c, 5, number);
+        damaged_workload(&mut c, 5, number);
+        large_versions(&mut c, 5, number);
+    }
+    no_difference(&c);
+}
+
+/// The archives of document 01's record, P1 to P7.
+#[test]
+fn the_record() {
+    let record = workloads::record();
+    let (keys, archive) = (&record.keys, &record.archive);
+    let last = r#"<T t="1-3"><station><T t="2-3"><lamp><pos>1</pos><type>B</type></lamp></T><T t="1-2"><lamp><hours><T t="1">40</T><T t="2">90</T></hours><pos>2</pos><type>A</type></lamp></T><light>Fl 5s</light></station></T>"#;
+    assert_eq!(archive, last.as_bytes());
+    let mut out = [0; 1_000];
+    for (address, history) in [("/station/lamp[pos=\"1\"]", "2-3"), ("/station/lamp[pos=\"2\"]/hours", "1-2"), ("/station/lamp[pos=\"7\"]", "")] {
+        assert_eq!(plain::history(keys, archive, address.as_bytes(), &mut out), (0, history.len()));
+        assert_eq!(&out[..history.len()], history.as_bytes());
+    }
+    assert_eq!(plain::back(keys, archive, 2, &mut out), (0, record.before.len()));
+    assert_eq!(out[..record.before.len()], record.before);
+    assert_eq!(plain::back(keys, archive, 0, &mut out), (11, 0));
+    assert_eq!(plain::retrieve(keys, archive, 4, &mut out), (11, 0));
+}
+
+/// The workloads are what they are said to be, and legal for the reference too.
+#[test]
+fn the_workloads() {
+    for workload in workloads::all() {
+        let reference = reference::retrieve(&workload.keys, &workload.archive, 1, usize::MAX, reference::WORK_CELLS);
+        assert_eq!(reference.number, 0, "{}", workload.name);
+    }
+    let full = workloads::full();
+    assert_eq!((full.nodes(), full.archive.len()), (1_024, 32_768));
+    assert_eq!(workloads::counter(999).n, 999);
+}
