@@ -4,18 +4,18 @@ use Prim.Native.Nat.{ℕ}
 use contract.Lifetimes.{Lfts}
 use denote.Triple.Clauses.{AtExit}
 use borrow.Fn.Kinds.{Dens, resT, endedOf}
-use Rattle.archive.specs.Calls.{found, add, retrieve, history, stepBack}
+use Rattle.versions.specs.Calls.{found, add, retrieve, history, stepBack}
 use Rattle.archive.specs.Runs.{Meets}
 use Rattle.archive.proofs.found.found.Kinds as found-kinds
 use Rattle.archive.proofs.found.found.Reads as found-reads
-use Rattle.archive.proofs.grow.add_version.Kinds as add-kinds
-use Rattle.archive.proofs.grow.add_version.Reads as add-reads
-use Rattle.archive.proofs.stepping.step_back.Kinds as back-kinds
-use Rattle.archive.proofs.stepping.step_back.Reads as back-reads
-use Rattle.archive.proofs.retrieval.retrieve.Kinds as retrieve-kinds
-use Rattle.archive.proofs.retrieval.retrieve.Reads as retrieve-reads
-use Rattle.archive.proofs.histories.give_history.Kinds as history-kinds
-use Rattle.archive.proofs.histories.give_history.Reads as history-reads
+use Rattle.archive.proofs.add.add_version.Kinds as add-kinds
+use Rattle.archive.proofs.add.add_version.Reads as add-reads
+use Rattle.archive.proofs.back.step_back.Kinds as back-kinds
+use Rattle.archive.proofs.back.step_back.Reads as back-reads
+use Rattle.archive.proofs.retrieve.retrieve.Kinds as retrieve-kinds
+use Rattle.archive.proofs.retrieve.retrieve.Reads as retrieve-reads
+use Rattle.archive.proofs.history.give_history.Kinds as history-kinds
+use Rattle.archive.proofs.history.give_history.Reads as history-reads
 
 -- `found(keys, version, out, work)`
 pub found-exit : (κs : Lfts 4) (d : Dens κs found-kinds.ps) (a : resT found-kinds.r κs .Denot) (x : AtExit (endedOf 4 found-kinds.ps found-kinds.r) κs) → found-reads.Post κs d a x

@@ -18,20 +18,20 @@ use Rattle.keys.specs.Version.{version}
 use Rattle.keys.specs.Versions.{version-legal}
 use Rattle.keys.specs.Table.{Table}
 use Rattle.keys.specs.Loading.{Tabled}
-use Rattle.archive.specs.Archive.{lastVersion}
-use Rattle.archive.specs.Calls.{answer, room, atMost, storable, give, add}
-use Rattle.archive.specs.Walk.{archiveRead, addForest, addOn}
-use Rattle.archive.specs.WalkLaws.{adds}
-use Rattle.archive.specs.LegalWhole.{legal-few}
-use Rattle.archive.specs.AllTimed.{legal-last}
-use Rattle.archive.specs.Growth.{Grew}
-use Rattle.archive.specs.AddWhole.{Adding, SomeAdding}
+use Rattle.versions.specs.Archive.{lastVersion}
+use Rattle.versions.specs.Calls.{answer, room, atMost, storable, give, add}
+use Rattle.versions.specs.Walk.{archiveRead, addForest, addOn}
+use Rattle.versions.specs.WalkLaws.{adds}
+use Rattle.versions.specs.LegalWhole.{legal-few}
+use Rattle.versions.specs.AllTimed.{legal-last}
+use Rattle.adding.specs.Growth.{Grew}
+use Rattle.adding.specs.AddWhole.{Adding, SomeAdding}
 use Rattle.archive.specs.Reception.{Version}
 use Rattle.archive.specs.Giving.{Gives, gives-same, step-ok, test-refused, test-passed, give-done}
-use Rattle.archive.specs.Opened.{ArchiveOn}
+use Rattle.legality.specs.Opened.{ArchiveOn}
 use Rattle.archive.specs.OpenedLaws.{archive-10}
-use Rattle.archive.specs.declared.content.Added.{Added}
-use Rattle.archive.specs.declared.grow.Size.{Size}
+use Rattle.adding.specs.declared.content.Added.{Added}
+use Rattle.archive.specs.declared.add.Size.{Size}
 
 -- the steps that store and give an archive
 abbrev pub storeIn : Forest → ℕ → Result Bytes

@@ -13,11 +13,11 @@ use Rattle.keys.specs.Result.{Result, numberOf, _>>=_, _>>_, refuse, r11}
 use Rattle.keys.specs.KeyList.{KeyList, keyList}
 use Rattle.keys.specs.Table.{Table}
 use Rattle.keys.specs.Loading.{Tabled}
-use Rattle.archive.specs.Archive.{lastVersion}
-use Rattle.archive.specs.Calls.{atMost, give}
-use Rattle.archive.specs.Walk.{archiveRead}
-use Rattle.archive.specs.AllTimed.{legal-last}
-use Rattle.archive.specs.Opened.{ArchiveOn}
+use Rattle.versions.specs.Archive.{lastVersion}
+use Rattle.versions.specs.Calls.{atMost, give}
+use Rattle.versions.specs.Walk.{archiveRead}
+use Rattle.versions.specs.AllTimed.{legal-last}
+use Rattle.legality.specs.Opened.{ArchiveOn}
 use Rattle.archive.specs.Giving.{Gives, step-ok, test-refused, test-passed}
 
 -- the last steps, where i of n versions is asked for and s is to be given

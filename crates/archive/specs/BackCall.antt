@@ -7,10 +7,10 @@ use Rattle.xml.specs.Bytes.{Bytes}
 use Rattle.xml.specs.Forest.{Forest, write}
 use Rattle.xml.specs.Tape.{headAt, nextAt}
 use Rattle.keys.specs.Result.{_>>_}
-use Rattle.archive.specs.Calls.{answer, room, stepBack}
-use Rattle.archive.specs.Walk.{backForest, stepBackOn}
-use Rattle.archive.specs.WalkLaws.{stepsBack}
-use Rattle.archive.specs.Timely.{Timely, legal-timely, legal-outer}
+use Rattle.versions.specs.Calls.{answer, room, stepBack}
+use Rattle.versions.specs.Walk.{backForest, stepBackOn}
+use Rattle.versions.specs.WalkLaws.{stepsBack}
+use Rattle.versions.specs.Timely.{Timely, legal-timely, legal-outer}
 use Rattle.archive.specs.Asking.{askedIn, Lies}
 
 -- the archive of the first i versions of an archive's forest, written

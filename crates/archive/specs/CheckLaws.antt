@@ -12,7 +12,7 @@ use Rattle.keys.specs.Table.{Table}
 use Rattle.keys.specs.Loading.{LoadRead}
 use Rattle.keys.specs.declared.load.Loaded.{Loaded}
 use Rattle.keys.specs.declared.load.Loaded.the-variants.{Table as Loads, Notation as NotNoted, Rules as NotKept}
-use Rattle.archive.specs.Calls.{answer, room, atMost, checkKeys, workAfter}
+use Rattle.versions.specs.Calls.{answer, room, atMost, checkKeys, workAfter}
 
 pub append-none : (l : List ℕ) → l ++ [] ≡ l
 append-none [] = refl

@@ -11,8 +11,8 @@ use Rattle.keys.specs.KeyList.{KeyList, keyList}
 use Rattle.keys.specs.Version.{version}
 use Rattle.keys.specs.Table.{Table}
 use Rattle.keys.specs.Loading.{Tabled}
-use Rattle.archive.specs.Archive.{archiveOf}
-use Rattle.archive.specs.Calls.{answer, room, atMost, storable, give, found}
+use Rattle.versions.specs.Archive.{archiveOf}
+use Rattle.versions.specs.Calls.{answer, room, atMost, storable, give, found}
 use Rattle.archive.specs.Reception.{Version}
 use Rattle.archive.specs.Founding.{firstText, founded-text, founded-storable, short}
 use Rattle.archive.specs.Giving.{Gives, gives-same}

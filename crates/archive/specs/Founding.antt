@@ -18,10 +18,10 @@ use Rattle.keys.specs.Versions.{version-legal}
 use Rattle.keys.specs.Tree.{keyed}
 use Rattle.keys.specs.TreeParts.{forest-tree}
 use Rattle.timestamp.specs.Times.{always, onlyAfter, writeTimes, times-compute}
-use Rattle.archive.specs.Archive.{archive, archiveForest, archiveOf}
-use Rattle.archive.specs.AddWritten.{stamped-fresh}
+use Rattle.versions.specs.Archive.{archive, archiveForest, archiveOf}
+use Rattle.versions.specs.AddWritten.{stamped-fresh}
 use Rattle.archive.specs.CheckLaws.{append-none}
-use Rattle.archive.specs.Calls.{storable}
+use Rattle.versions.specs.Calls.{storable}
 
 one-text : writeTimes (always 1) ≡ bytes "1"
 unfolding times-compute

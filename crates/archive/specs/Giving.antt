@@ -14,7 +14,7 @@ use Rattle.keys.specs.Result.{Refusal, Result, numberOf, refused, ok, _>>=_, _>
 use Rattle.keys.specs.KeyList.{KeyList, keyList}
 use Rattle.keys.specs.Version.{version}
 use Rattle.xml.specs.Forest.{Forest}
-use Rattle.archive.specs.Calls.{Answer, answer, room, atMost, give, outAfter, workAfter}
+use Rattle.versions.specs.Calls.{Answer, answer, room, atMost, give, outAfter, workAfter}
 use Rattle.archive.specs.Reception.{SentBack}
 
 -- an answer and an output are what the steps give; 1 is not among them

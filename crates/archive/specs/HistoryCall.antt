@@ -15,12 +15,12 @@ use Rattle.keys.specs.Loading.{Tabled}
 use Rattle.keys.specs.Address.{address}
 use Rattle.keys.specs.AddressParts.{ParsedAs}
 use Rattle.keys.specs.declared.address.Parsed.{Parsed}
-use Rattle.archive.specs.Calls.{answer, room, atMost, give, history}
-use Rattle.archive.specs.Walk.{forestLegal, archiveRead, historyForest, historyOn}
-use Rattle.archive.specs.WalkLaws.{histories}
-use Rattle.archive.specs.HistoryParts.{HistoryAsked, OfHistory}
+use Rattle.versions.specs.Calls.{answer, room, atMost, give, history}
+use Rattle.versions.specs.Walk.{forestLegal, archiveRead, historyForest, historyOn}
+use Rattle.versions.specs.WalkLaws.{histories}
+use Rattle.walks.specs.HistoryParts.{HistoryAsked, OfHistory}
 use Rattle.archive.specs.Giving.{Gives, step-refused, step-ok}
-use Rattle.archive.specs.Opened.{ArchiveOn}
+use Rattle.legality.specs.Opened.{ArchiveOn}
 
 -- the steps with the archive's forest at hand
 abbrev pub historyFor : KeyList → Bytes → ℕ → Forest → Result Bytes

@@ -7,11 +7,11 @@ use Rattle.xml.specs.Forest.{Forest}
 use Rattle.keys.specs.Result.{Result, numberOf, refused, _>>=_, r10}
 use Rattle.keys.specs.KeyList.{KeyList}
 use Rattle.keys.specs.Table.{Table}
-use Rattle.archive.specs.Walk.{archiveRead}
+use Rattle.versions.specs.Walk.{archiveRead}
 use Rattle.archive.specs.Giving.{Gives, step-refused}
-use Rattle.archive.specs.Opened.{ArchiveOn, Opens}
-use Rattle.archive.specs.declared.open.Opened.{Opened}
-use Rattle.archive.specs.declared.open.Opened.the-variants.{Done, Illegal}
+use Rattle.legality.specs.Opened.{ArchiveOn, Opens}
+use Rattle.legality.specs.declared.open.Opened.{Opened}
+use Rattle.legality.specs.declared.open.Opened.the-variants.{Done, Illegal}
 
 -- ---- the answers of an archive opened
 module _ (keyText : Bytes) (table : List ℕ) (paths : ℕ) (src cells : List ℕ) {r : Opened} where

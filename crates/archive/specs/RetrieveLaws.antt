@@ -3,10 +3,10 @@ use Prim.Native.Nat.{ℕ}
 use mathlib.Core.Path.{_≡_, sym}
 use Rattle.xml.specs.Bytes.{Bytes}
 use Rattle.keys.specs.Result.{_>>_}
-use Rattle.archive.specs.Calls.{answer, room, retrieve}
-use Rattle.archive.specs.Walk.{retrieveOn}
-use Rattle.archive.specs.WalkLaws.{retrieves}
-use Rattle.archive.specs.VersionText.{versionText}
+use Rattle.versions.specs.Calls.{answer, room, retrieve}
+use Rattle.versions.specs.Walk.{retrieveOn}
+use Rattle.versions.specs.WalkLaws.{retrieves}
+use Rattle.versions.specs.VersionText.{versionText}
 use Rattle.archive.specs.Asking.{askedIn}
 
 -- the call is the test for room, and the steps that follow it

@@ -14,10 +14,10 @@ use Rattle.keys.specs.KeyList.{KeyList, keyList}
 use Rattle.keys.specs.Version.{Label}
 use Rattle.keys.specs.Address.{address, holds}
 use Rattle.timestamp.specs.Times.{writeTimes}
-use Rattle.archive.specs.Archive.{archiveOf}
-use Rattle.archive.specs.Calls.{Answer, found, add, retrieve, history, stepBack, versionAt, outAfter}
-use Rattle.archive.specs.Shelf.{Call, adding, backTo, Founding, call, lastArchive, result, standing, SameShelf}
-use Rattle.archive.specs.Standing.{demand-3}
+use Rattle.versions.specs.Archive.{archiveOf}
+use Rattle.versions.specs.Calls.{Answer, found, add, retrieve, history, stepBack, versionAt, outAfter}
+use Rattle.versions.specs.Shelf.{Call, adding, backTo, Founding, call, lastArchive, result, standing, SameShelf}
+use Rattle.versions.specs.Standing.{demand-3}
 use Rattle.archive.specs.Giving.{Ends}
 
 -- the output and the work cells that a call of the code was lent, and what it answered and left

@@ -1,172 +1,52 @@
-// Adding a version to an archive, both on tapes: the archive's siblings and the version's are walked together by their labels.
-use crate::content::Added;
-use crate::content::write_contents;
-use crate::history::element_at;
-use crate::sibling::close_set;
-use crate::sibling::open_set;
-use crate::sibling::order_of;
-use crate::sibling::set_of;
-use crate::sibling::write_new;
-use crate::sibling::write_old;
-use crate::timed::put_newest;
-use crate::timed::put_times;
-use keys::places::child;
-use keys::places::is_above;
-use timestamp::Timestamp;
-use xml::tape::view_at;
-use xml::writer::put_close;
-use xml::writer::put_open;
-use xml::writer::put_word;
+// The call that adds a version to an archive.
+use crate::Answer;
+use crate::received::Received;
+use crate::received::receive;
+use crate::work::clear;
+use adding::add::add;
+use keys::load::Loaded;
+use keys::load::load;
+use legality::open::Opened;
+use legality::open::count_nodes;
+use legality::open::open;
 ghost use mathlib.Core.Path.{_≡_};
-ghost use mathlib.Core.Option.{Option};
-ghost use Prim.Native.Nat.{ℕ, _+_, _*_, _-_, _^_, _<_, _≤_};
-ghost use Rattle.xml.specs.Bytes.{Bytes};
+ghost use Prim.Native.Nat.{_≤_};
+ghost use lib.ListN.{length};
 ghost use Rattle.xml.specs.Forest.{Forest};
-ghost use Rattle.xml.specs.Tape.{nextAt};
-ghost use Rattle.keys.specs.KeyList.{Path, KeyList};
-ghost use Rattle.keys.specs.Version.{_▸_};
-ghost use Rattle.timestamp.specs.Times.{Times};
-ghost use Rattle.archive.specs.Walk.{addForest};
-ghost use Rattle.archive.specs.AddParts.{sibling, setIn, bothPart, inside};
-ghost use Rattle.archive.specs.Growth.{Grew};
-ghost use Rattle.archive.specs.AddWalk.{Held, SomeHeld, Both, SomeBoth};
-ghost use Rattle.archive.specs.AddWhole.{Adding, SomeAdding};
+ghost use Rattle.keys.specs.KeyList.{KeyList};
+ghost use Rattle.keys.specs.Table.{Table as TableOf};
+ghost use Rattle.keys.specs.Loading.{Tabled};
+ghost use Rattle.versions.specs.Calls.{add as addAnswer};
+ghost use Rattle.archive.specs.Giving.{Gives, Ends};
+ghost use Rattle.archive.specs.Reception.{Version};
+ghost use Rattle.adding.specs.AddWhole.{Adding, SomeAdding};
+ghost use Rattle.versions.specs.Walk.{addForest};
+ghost use Rattle.archive.specs.AddCall.{refusalOf, SizeIs, addTo, addUnder, addFrom};
 
-// The sibling p, in an element at the place, which the version has as its element q.
-fn write_both(
-    text: &[u8],
-    table: &[u32],
-    paths: usize,
-    place: usize,
-    src: &[u8],
-    tape: &[u32],
-    p: usize,
-    vsrc: &[u8],
-    vtape: &[u32],
-    q: usize,
-    n: usize,
-    around: Timestamp,
-    out: &mut [u8],
-    at: usize,
-) -> Added
-    requires { ⌜ SomeBoth (now text) (now table) paths place (now src) (now tape) p (now vsrc) (now vtape) q n (around .words) × (n ≤ 998)
-        × (nextAt (now tape) p ≤ 2 ^ 32) × (nextAt (now vtape) q ≤ 2 ^ 32) × (at + 262144 * (nextAt (now tape) p - p + (nextAt (now vtape) q - q)) < 2 ^ 58) ⌝ }
-    ensures { λ r. ⌜ ((K : KeyList) (w : Path) (t : Times) (o : Option Bytes) (m : Bytes) (k g : Forest)
-        → Both (now (text .entry)) (now (table .entry)) paths place (now (src .entry)) (now (tape .entry)) p (now (vsrc .entry)) (now (vtape .entry)) q n (around .words) K w t o m k g
-        → Grew (now (out .entry)) at (bothPart n o m (inside K n (w ▸ m) (setIn n t o) k g)) (sibling o m k) (nextAt (now (vtape .entry)) q - q)
-        (262144 * (nextAt (now (tape .entry)) p - p + (nextAt (now (vtape .entry)) q - q))) r (now (out .exit))) ⌝ }
-{
-    let e = element_at(tape, p);
-    let set = set_of(src, tape, p, around);
-    let v = view_at(tape, e);
-    let w = view_at(vtape, q);
-    let own = child(text, table, paths, place, src, v.start, v.end);
-    let tag = open_set(tape, p, set, n, out, at);
-    let inside = put_open(true, src, v.start, v.end, out, tag);
-    let x = write_added(
-        text,
-        table,
-        paths,
-        own,
-        src,
-        tape,
-        e + 1,
-        v.next,
-        vsrc,
-        vtape,
-        q + 1,
-        w.next,
-        n,
-        set,
-        out,
-        inside,
-    );
-    let close = put_close(true, src, v.start, v.end, out, x.at);
-    let last = close_set(tape, p, out, close);
-    Added {
-        at: last,
-        fresh: x.fresh,
-    }
+// An archive's nodes and bytes.
+pub struct Size {
+    pub nodes: usize,
+    pub bytes: usize,
 }
 
-// What an element at the place comes to hold: lo to hi is what it held in the versions `around`, vlo to vhi what it holds in version n + 1.
-pub fn write_added(
-    text: &[u8],
-    table: &[u32],
-    paths: usize,
-    place: usize,
-    src: &[u8],
-    tape: &[u32],
-    lo: usize,
-    hi: usize,
-    vsrc: &[u8],
-    vtape: &[u32],
-    vlo: usize,
-    vhi: usize,
-    n: usize,
-    around: Timestamp,
-    out: &mut [u8],
-    at: usize,
-) -> Added
-    requires { ⌜ SomeHeld (now text) (now table) paths place (now src) (now tape) lo hi (now vsrc) (now vtape) vlo vhi n (around .words) × (n ≤ 998)
-        × (hi ≤ 2 ^ 32) × (vhi ≤ 2 ^ 32) × (at + (262144 * (hi - lo + (vhi - vlo)) + 32768) < 2 ^ 58) ⌝ }
-    ensures { λ r. ⌜ ((K : KeyList) (w : Path) (t : Times) (f v : Forest)
-        → Held (now (text .entry)) (now (table .entry)) paths place (now (src .entry)) (now (tape .entry)) lo hi (now (vsrc .entry)) (now (vtape .entry)) vlo vhi n (around .words) K w t f v
-        → Grew (now (out .entry)) at (inside K n w t f v) f (vhi - vlo) (262144 * (hi - lo + (vhi - vlo)) + 32768) r (now (out .exit))) ⌝ }
+// The number under which a result of this size is refused, too large (13) or longer than the output (14), or 0.
+fn refusal(size: Size, room: usize) -> u32
+    ensures { λ r. ⌜ r ≡ refusalOf (size .nodes) (size .bytes) room ⌝ }
 {
-    if !is_above(table, paths, place) {
-        return write_contents(src, tape, lo, hi, vsrc, vtape, vlo, vhi, n, around, out, at);
+    if 1024 < size.nodes {
+        return 13;
     }
-    let mut p = lo;
-    let mut q = vlo;
-    let mut to = at;
-    let mut fresh = 0;
-    while p < hi {
-        let order = order_of(text, table, paths, place, src, tape, p, vsrc, vtape, q, vhi);
-        if order == 2 {
-            let w = view_at(vtape, q);
-            to = put_newest(n, vsrc, vtape, q, w.next, out, to);
-            fresh += w.next - q;
-            q = w.next;
-        } else if order == 0 {
-            to = write_old(src, tape, p, around, out, to);
-            let v = view_at(tape, p);
-            p = v.next;
-        } else {
-            let x = write_both(
-                text,
-                table,
-                paths,
-                place,
-                src,
-                tape,
-                p,
-                vsrc,
-                vtape,
-                q,
-                n,
-                around,
-                out,
-                to,
-            );
-            let v = view_at(tape, p);
-            let w = view_at(vtape, q);
-            to = x.at;
-            fresh += x.fresh;
-            p = v.next;
-            q = w.next;
-        }
+    if 32768 < size.bytes {
+        return 13;
     }
-    let last = write_new(vsrc, vtape, q, vhi, n, out, to);
-    Added {
-        at: last,
-        fresh: fresh + (vhi - q),
+    if room < size.bytes {
+        return 14;
     }
+    0
 }
 
-// Writes the archive with one version more: the nodes below hi are the archive of n versions, and those below vhi of the other tape the
-// version in its order.
-pub fn add(
+// The size of the archive of n versions on the tape with the version on the other tape.
+fn grown_size(
     text: &[u8],
     table: &[u32],
     paths: usize,
@@ -175,40 +55,189 @@ pub fn add(
     hi: usize,
     vsrc: &[u8],
     vtape: &[u32],
-    vhi: usize,
+    m: usize,
     n: usize,
-    out: &mut [u8],
-    at: usize,
-) -> Added
-    requires { ⌜ SomeAdding (now text) (now table) paths (now src) (now tape) hi (now vsrc) (now vtape) vhi n × (n ≤ 998) × (hi ≤ 2 ^ 32) × (vhi ≤ 2 ^ 32)
-        × (at + (262144 * (hi + vhi) + 65536) < 2 ^ 58) ⌝ }
+) -> Size
+    requires { ⌜ SomeAdding (now text) (now table) paths (now src) (now tape) hi (now vsrc) (now vtape) m n × (n ≤ 998) × (hi ≤ 16384) × (m ≤ 512) ⌝ }
     ensures { λ r. ⌜ ((K : KeyList) (f v : Forest)
-        → Adding (now (text .entry)) (now (table .entry)) paths (now (src .entry)) (now (tape .entry)) hi (now (vsrc .entry)) (now (vtape .entry)) vhi n K f v
-        → Grew (now (out .entry)) at (addForest K n v f) f vhi (262144 * (hi + vhi) + 65536) r (now (out .exit))) ⌝ }
+        → Adding (now (text .entry)) (now (table .entry)) paths (now (src .entry)) (now (tape .entry)) hi (now (vsrc .entry)) (now (vtape .entry)) m n K f v
+        → SizeIs (addForest K n v f) r) ⌝ }
 {
-    let inside = put_times(Timestamp::up_to(n + 1), out, at);
-    let around = Timestamp::up_to(n);
-    let x = write_added(
+    let mut none = [0u8; 0];
+    let x = add(
         text,
         table,
         paths,
-        128,
         src,
         tape,
-        1,
         hi,
         vsrc,
         vtape,
-        0,
-        vhi,
+        m,
         n,
-        around,
-        out,
-        inside,
+        &mut none,
+        0,
     );
-    let last = put_word(b"</T>", out, x.at);
-    Added {
-        at: last,
-        fresh: x.fresh,
+    let old = count_nodes(src, tape, 0, hi);
+    Size {
+        nodes: old + x.fresh,
+        bytes: x.at,
     }
+}
+
+// Gives the archive of n versions on the tape with the version on the other tape, if it may be stored and fits.
+fn give_grown(
+    text: &[u8],
+    table: &[u32],
+    paths: usize,
+    src: &[u8],
+    tape: &[u32],
+    hi: usize,
+    vsrc: &[u8],
+    vtape: &[u32],
+    m: usize,
+    n: usize,
+    out: &mut [u8],
+) -> Answer
+    requires { ⌜ SomeAdding (now text) (now table) paths (now src) (now tape) hi (now vsrc) (now vtape) m n × (hi ≤ 16384) × (m ≤ 512) ⌝ }
+    ensures { λ r. ⌜ ((K : KeyList) (f v : Forest)
+        → Adding (now (text .entry)) (now (table .entry)) paths (now (src .entry)) (now (tape .entry)) hi (now (vsrc .entry)) (now (vtape .entry)) m n K f v
+        → Gives (addTo K n v (length (now (out .entry))) f) (r .number) (r .length) (now (out .entry)) (now (out .exit))) ⌝ }
+{
+    if n == 999 {
+        return Answer {
+            number: 11,
+            length: 0,
+        };
+    }
+    let size = grown_size(text, table, paths, src, tape, hi, vsrc, vtape, m, n);
+    let number = refusal(size, out.len());
+    if number != 0 {
+        return Answer { number, length: 0 };
+    }
+    add(text, table, paths, src, tape, hi, vsrc, vtape, m, n, out, 0);
+    Answer {
+        number: 0,
+        length: size.bytes,
+    }
+}
+
+// Adds the version on the tape to an archive.
+fn add_to(
+    text: &[u8],
+    table: &[u32],
+    paths: usize,
+    archive: &[u8],
+    version: &[u8],
+    canon: &[u32],
+    m: usize,
+    out: &mut [u8],
+    work: &mut [u32],
+) -> Answer
+    requires { ⌜ Tabled (now text) (now table) paths × (length (now archive) ≤ 32768) × (16384 ≤ length (now work))
+        × ((K : KeyList) → TableOf (now text) (now table) paths K → Version K (now version) (now canon) m) ⌝ }
+    ensures { λ r. ⌜ ((K : KeyList) → TableOf (now (text .entry)) (now (table .entry)) paths K
+        → Gives (addUnder K (now (version .entry)) (now (archive .entry)) (length (now (out .entry)))) (r .number) (r .length) (now (out .entry)) (now (out .exit))) ⌝ }
+{
+    match open(text, table, paths, archive, work) {
+        Opened::Done(hi, n) => {
+            give_grown(
+                text,
+                table,
+                paths,
+                archive,
+                work,
+                hi,
+                version,
+                canon,
+                m,
+                n,
+                out,
+            )
+        }
+        Opened::Illegal => Answer {
+            number: 10,
+            length: 0,
+        },
+    }
+}
+
+// Adds a version under the key list of a table.
+fn add_under(
+    text: &[u8],
+    table: &[u32],
+    paths: usize,
+    archive: &[u8],
+    version: &[u8],
+    out: &mut [u8],
+    work: &mut [u32],
+) -> Answer
+    requires { ⌜ Tabled (now text) (now table) paths × (length (now archive) ≤ 32768) × (length (now version) ≤ 16384) × (16384 ≤ length (now work)) ⌝ }
+    ensures { λ r. ⌜ ((K : KeyList) → TableOf (now (text .entry)) (now (table .entry)) paths K
+        → Gives (addUnder K (now (version .entry)) (now (archive .entry)) (length (now (out .entry)))) (r .number) (r .length) (now (out .entry)) (now (out .exit))) ⌝ }
+{
+    let mut canon = [0u32; 1024];
+    match receive(text, table, paths, version, work, &mut canon) {
+        Received::Done(m) => add_to(text, table, paths, archive, version, &canon, m, out, work),
+        Received::Back(number) => Answer { number, length: 0 },
+    }
+}
+
+// Adds a version, with room to work in.
+fn add_in(keys: &[u8], archive: &[u8], version: &[u8], out: &mut [u8], work: &mut [u32]) -> Answer
+    requires { ⌜ 16384 ≤ length (now work) ⌝ }
+    ensures { λ r. ⌜ Gives (addFrom (now (keys .entry)) (now (version .entry)) (now (archive .entry)) (length (now (out .entry)))) (r .number) (r .length) (now (out .entry)) (now (out .exit)) ⌝ }
+{
+    if 4096 < keys.len() {
+        return Answer {
+            number: 2,
+            length: 0,
+        };
+    }
+    if 16384 < version.len() {
+        return Answer {
+            number: 2,
+            length: 0,
+        };
+    }
+    if 32768 < archive.len() {
+        return Answer {
+            number: 2,
+            length: 0,
+        };
+    }
+    let mut table = [0u32; 256];
+    match load(keys, &mut table) {
+        Loaded::Table(n) => add_under(keys, &table, n, archive, version, out, work),
+        Loaded::Notation => Answer {
+            number: 3,
+            length: 0,
+        },
+        Loaded::Rules => Answer {
+            number: 4,
+            length: 0,
+        },
+    }
+}
+
+// Adds a version to an archive.
+pub fn add_version(
+    keys: &[u8],
+    archive: &[u8],
+    version: &[u8],
+    out: &mut [u8],
+    work: &mut [u32],
+) -> Answer
+    ensures { λ r. ⌜ Ends (addAnswer (now (keys .entry)) (now (version .entry)) (now (archive .entry)) (length (now (out .entry))) (length (now (work .entry))))
+        (now (out .entry)) (now (work .entry)) (r .number) (r .length) (now (out .exit)) (now (work .exit)) ⌝ }
+{
+    if work.len() < 16384 {
+        return Answer {
+            number: 1,
+            length: 0,
+        };
+    }
+    let answer = add_in(keys, archive, version, out, work);
+    clear(work);
+    answer
 }

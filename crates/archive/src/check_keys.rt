@@ -5,7 +5,7 @@ use keys::load::Loaded;
 use keys::load::load;
 ghost use mathlib.Core.Path.{_≡_};
 ghost use lib.ListN.{length};
-ghost use Rattle.archive.specs.Calls.{checkKeys, workAfter};
+ghost use Rattle.versions.specs.Calls.{checkKeys, workAfter};
 
 pub fn check_keys(keys: &[u8], work: &mut [u32]) -> Answer
     ensures { λ r. ⌜ (r .number ≡ checkKeys (now (keys .entry)) (length (now (work .entry))) .number) × (r .length ≡ 0)

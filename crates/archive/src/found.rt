@@ -15,7 +15,7 @@ ghost use Rattle.xml.specs.Tape.{Tape};
 ghost use Rattle.keys.specs.KeyList.{KeyList};
 ghost use Rattle.keys.specs.Table.{Table as TableOf};
 ghost use Rattle.keys.specs.Loading.{Tabled};
-ghost use Rattle.archive.specs.Calls.{give, found as founded};
+ghost use Rattle.versions.specs.Calls.{give, found as founded};
 ghost use Rattle.archive.specs.Giving.{Gives, Ends};
 ghost use Rattle.archive.specs.Founding.{firstText};
 ghost use Rattle.archive.specs.FoundLaws.{FirstOn, foundOf, foundIn};

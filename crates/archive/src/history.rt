@@ -1,158 +1,190 @@
-// Histories: the steps of an address are followed on the archive's tape, from the root down, to the text of the nearest `T`.
+// The call that gives the history of an address.
+use crate::Answer;
+use crate::work::clear;
 use keys::address::Parsed;
-use keys::address::same_step;
-use xml::tape::view_at;
-use xml::writer::put_part;
-ghost use mathlib.Core.Path.{_≡_};
-ghost use mathlib.Core.List.{[]};
-ghost use Prim.Native.Nat.{_+_, _*_, _^_, _<_};
-ghost use lib.ListN.{length, getD};
-ghost use Rattle.xml.specs.Over.{Wrote};
-ghost use Rattle.archive.specs.HistoryTape.{elementAt};
-ghost use Rattle.archive.specs.HistoryParts.{StepSought, StepFound, entered, HistoryAsked, OfHistory, AroundIs};
+use keys::address::parse_address;
+use keys::load::Loaded;
+use keys::load::load;
+use legality::open::Opened;
+use legality::open::open;
+use walks::history::history;
+ghost use Prim.Native.Nat.{_≤_};
+ghost use lib.ListN.{length};
+ghost use Rattle.xml.specs.Forest.{Forest};
+ghost use Rattle.xml.specs.Tape.{Tape};
+ghost use Rattle.keys.specs.KeyList.{KeyList};
+ghost use Rattle.keys.specs.Table.{Table as TableOf};
+ghost use Rattle.keys.specs.Loading.{Tabled};
+ghost use Rattle.versions.specs.Calls.{give, history as historyAnswer};
+ghost use Rattle.archive.specs.Giving.{Gives, Ends};
+ghost use Rattle.walks.specs.HistoryParts.{HistoryAsked, OfHistory};
+ghost use Rattle.archive.specs.HistoryCall.{SomeArchive, historyFor, historyUnder, historyFrom};
 
-// The text of the nearest `T` around the element of an address, if the element is there.
-pub struct Around {
-    pub found: bool,
-    pub start: usize,
-    pub end: usize,
-}
-
-// Where a walk stands: the text of the nearest `T`, and the nodes in the element that it has come to.
-pub struct Stand {
-    pub start: usize,
-    pub end: usize,
-    pub lo: usize,
-    pub hi: usize,
-}
-
-// The element that the sibling p is or, if it is a `T`, is around.
-pub fn element_at(tape: &[u32], p: usize) -> usize
-    requires { ⌜ 2 * p + 1 < length (now tape) ⌝ }
-    ensures { λ r. ⌜ r ≡ elementAt (now (tape .entry)) p ⌝ }
-{
-    let v = view_at(tape, p);
-    if v.kind == 2 {
-        return p + 1;
-    }
-    p
-}
-
-// The first of the siblings lo to hi whose element has the label of step i, or hi.
-fn find_step(
+// Gives the history of an accepted address in the archive on the tape, if it fits.
+fn give_times(
     text: &[u8],
     table: &[u32],
-    n: usize,
+    paths: usize,
     s: &[u8],
     steps: Parsed,
     values: [[usize; 4]; 8],
-    i: usize,
     src: &[u8],
     tape: &[u32],
-    lo: usize,
     hi: usize,
-) -> usize
-    requires { ⌜ StepSought (now text) (now table) n (now s) (getD (steps .names) i 0) (getD (steps .places) i 0) (getD values i []) (now src) (now tape) lo hi × (i < 8) ⌝ }
-    ensures { λ r. ⌜ StepFound (now (text .entry)) (now (table .entry)) n (now (s .entry)) (getD (steps .names) i 0) (getD (steps .places) i 0) (getD values i []) (now (src .entry)) (now (tape .entry)) lo hi r ⌝ }
+    out: &mut [u8],
+) -> Answer
+    requires { ⌜ HistoryAsked (now text) (now table) paths (now s) steps values (now src) (now tape) hi ⌝ }
+    ensures { λ r. ⌜ OfHistory (now (text .entry)) (now (table .entry)) paths (now (s .entry)) (now (src .entry)) (now (tape .entry)) hi
+        (λ w. Gives (give (length (now (out .entry))) w) (r .number) (r .length) (now (out .entry)) (now (out .exit))) ⌝ }
 {
-    let mut p = lo;
-    while p < hi {
-        let e = element_at(tape, p);
-        if same_step(text, table, n, s, steps, values, i, src, tape, e) {
-            return p;
-        }
-        let v = view_at(tape, p);
-        p = v.next;
-    }
-    p
-}
-
-// Goes into the element of the sibling p: the nearest `T` is the one around it, or the one before.
-fn enter(tape: &[u32], p: usize, start: usize, end: usize) -> Stand
-    requires { ⌜ 2 * p + 1 < length (now tape) ⌝ }
-    ensures { λ r. ⌜ r ≡ entered (now (tape .entry)) p start end ⌝ }
-{
-    let v = view_at(tape, p);
-    if v.kind == 2 {
-        return Stand {
-            start: v.start,
-            end: v.end,
-            lo: p + 2,
-            hi: v.next,
+    let mut none = [0u8; 0];
+    let count = history(
+        text,
+        table,
+        paths,
+        s,
+        steps,
+        values,
+        src,
+        tape,
+        hi,
+        &mut none,
+        0,
+    );
+    if out.len() < count {
+        return Answer {
+            number: 14,
+            length: 0,
         };
     }
-    Stand {
-        start,
-        end,
-        lo: p + 1,
-        hi: v.next,
+    history(text, table, paths, s, steps, values, src, tape, hi, out, 0);
+    Answer {
+        number: 0,
+        length: count,
     }
 }
 
-// The text of the nearest `T` around the element of the address.
-fn nearest(
+// Gives the history of an address in the archive on the tape.
+fn history_on(
     text: &[u8],
     table: &[u32],
-    n: usize,
-    s: &[u8],
-    steps: Parsed,
-    values: [[usize; 4]; 8],
+    paths: usize,
     src: &[u8],
     tape: &[u32],
-    count: usize,
-) -> Around
-    requires { ⌜ HistoryAsked (now text) (now table) n (now s) steps values (now src) (now tape) count ⌝ }
-    ensures { λ r. ⌜ OfHistory (now (text .entry)) (now (table .entry)) n (now (s .entry)) (now (src .entry)) (now (tape .entry)) count (λ w. AroundIs (now (src .entry)) w r) ⌝ }
-{
-    let top = view_at(tape, 0);
-    let mut start = top.start;
-    let mut end = top.end;
-    let mut lo = 1;
-    let mut hi = count;
-    let mut i = 0;
-    while i < steps.count {
-        let p = find_step(text, table, n, s, steps, values, i, src, tape, lo, hi);
-        if p == hi {
-            return Around {
-                found: false,
-                start,
-                end,
-            };
-        }
-        let x = enter(tape, p, start, end);
-        start = x.start;
-        end = x.end;
-        lo = x.lo;
-        hi = x.hi;
-        i += 1;
-    }
-    Around {
-        found: true,
-        start,
-        end,
-    }
-}
-
-// Writes the history of an address: the text of the element's versions, or nothing.
-pub fn history(
-    text: &[u8],
-    table: &[u32],
-    n: usize,
-    s: &[u8],
-    steps: Parsed,
-    values: [[usize; 4]; 8],
-    src: &[u8],
-    tape: &[u32],
-    count: usize,
+    hi: usize,
+    address: &[u8],
     out: &mut [u8],
-    at: usize,
-) -> usize
-    requires { ⌜ HistoryAsked (now text) (now table) n (now s) steps values (now src) (now tape) count × (at < 2 ^ 62) ⌝ }
-    ensures { λ r. ⌜ OfHistory (now (text .entry)) (now (table .entry)) n (now (s .entry)) (now (src .entry)) (now (tape .entry)) count (λ w. Wrote (now (out .entry)) at w r (now (out .exit))) ⌝ }
+) -> Answer
+    requires { ⌜ SomeArchive (now text) (now table) paths (now src) (now tape) hi × (length (now address) ≤ 2560) ⌝ }
+    ensures { λ r. ⌜ ((K : KeyList) (f : Forest) → TableOf (now (text .entry)) (now (table .entry)) paths K → Tape (now (src .entry)) (now (tape .entry)) 0 hi f
+        → Gives (historyFor K (now (address .entry)) (length (now (out .entry))) f) (r .number) (r .length) (now (out .entry)) (now (out .exit))) ⌝ }
 {
-    let t = nearest(text, table, n, s, steps, values, src, tape, count);
-    if !t.found {
-        return at;
+    let mut values = [[0usize; 4]; 8];
+    let steps = parse_address(text, table, paths, address, &mut values);
+    if steps.count == 0 {
+        return Answer {
+            number: 12,
+            length: 0,
+        };
     }
-    put_part(src, t.start, t.end, out, at)
+    give_times(
+        text,
+        table,
+        paths,
+        address,
+        steps,
+        values,
+        src,
+        tape,
+        hi,
+        out,
+    )
+}
+
+// Gives the history of an address under the key list of a table.
+fn history_under(
+    text: &[u8],
+    table: &[u32],
+    paths: usize,
+    archive: &[u8],
+    address: &[u8],
+    out: &mut [u8],
+    work: &mut [u32],
+) -> Answer
+    requires { ⌜ Tabled (now text) (now table) paths × (length (now archive) ≤ 32768) × (length (now address) ≤ 2560) × (16384 ≤ length (now work)) ⌝ }
+    ensures { λ r. ⌜ ((K : KeyList) → TableOf (now (text .entry)) (now (table .entry)) paths K
+        → Gives (historyUnder K (now (archive .entry)) (now (address .entry)) (length (now (out .entry)))) (r .number) (r .length) (now (out .entry)) (now (out .exit))) ⌝ }
+{
+    match open(text, table, paths, archive, work) {
+        Opened::Done(hi, n) => history_on(text, table, paths, archive, work, hi, address, out),
+        Opened::Illegal => Answer {
+            number: 10,
+            length: 0,
+        },
+    }
+}
+
+// Gives the history of an address, with room to work in.
+fn history_in(
+    keys: &[u8],
+    archive: &[u8],
+    address: &[u8],
+    out: &mut [u8],
+    work: &mut [u32],
+) -> Answer
+    requires { ⌜ 16384 ≤ length (now work) ⌝ }
+    ensures { λ r. ⌜ Gives (historyFrom (now (keys .entry)) (now (archive .entry)) (now (address .entry)) (length (now (out .entry)))) (r .number) (r .length) (now (out .entry)) (now (out .exit)) ⌝ }
+{
+    if 4096 < keys.len() {
+        return Answer {
+            number: 2,
+            length: 0,
+        };
+    }
+    if 32768 < archive.len() {
+        return Answer {
+            number: 2,
+            length: 0,
+        };
+    }
+    if 2560 < address.len() {
+        return Answer {
+            number: 2,
+            length: 0,
+        };
+    }
+    let mut table = [0u32; 256];
+    match load(keys, &mut table) {
+        Loaded::Table(n) => history_under(keys, &table, n, archive, address, out, work),
+        Loaded::Notation => Answer {
+            number: 3,
+            length: 0,
+        },
+        Loaded::Rules => Answer {
+            number: 4,
+            length: 0,
+        },
+    }
+}
+
+// Gives the history of an address.
+pub fn give_history(
+    keys: &[u8],
+    archive: &[u8],
+    address: &[u8],
+    out: &mut [u8],
+    work: &mut [u32],
+) -> Answer
+    ensures { λ r. ⌜ Ends (historyAnswer (now (keys .entry)) (now (archive .entry)) (now (address .entry)) (length (now (out .entry))) (length (now (work .entry))))
+        (now (out .entry)) (now (work .entry)) (r .number) (r .length) (now (out .exit)) (now (work .exit)) ⌝ }
+{
+    if work.len() < 16384 {
+        return Answer {
+            number: 1,
+            length: 0,
+        };
+    }
+    let answer = history_in(keys, archive, address, out, work);
+    clear(work);
+    answer
 }

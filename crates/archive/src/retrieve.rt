@@ -1,55 +1,123 @@
-// Writing a version of an archive whose text lies on a tape: what stands in a `T` without the version is left out, and no `T` is written.
-use timestamp::text::belongs;
-use xml::tape::view_at;
-use xml::writer::put_close;
-use xml::writer::put_open;
-use xml::writer::put_text;
-ghost use Prim.Native.Nat.{_+_, _*_, _-_, _^_, _<_};
-ghost use Rattle.xml.specs.Tape.{nextAt, Valid};
-ghost use Rattle.archive.specs.Rendered.{Renders};
-ghost use Rattle.archive.specs.VersionText.{versionText};
+// The call that retrieves a version.
+use crate::Answer;
+use crate::work::clear;
+use keys::load::Loaded;
+use keys::load::load;
+use legality::open::Opened;
+use legality::open::open;
+use walks::retrieve::write_version;
+ghost use Prim.Native.Nat.{_≤_};
+ghost use lib.ListN.{length};
+ghost use Rattle.xml.specs.Forest.{Forest};
+ghost use Rattle.xml.specs.Tape.{Tape};
+ghost use Rattle.keys.specs.KeyList.{KeyList};
+ghost use Rattle.keys.specs.Table.{Table as TableOf};
+ghost use Rattle.keys.specs.Loading.{Tabled};
+ghost use Rattle.versions.specs.Calls.{retrieve as retrieved};
+ghost use Rattle.archive.specs.Giving.{Gives, Ends};
+ghost use Rattle.versions.specs.VersionText.{versionText};
+ghost use Rattle.archive.specs.Asking.{Lies, asked, askedOf, askedIn};
 
-// Writes what of node p is in version i.
-fn write_node(src: &[u8], tape: &[u32], p: usize, i: usize, out: &mut [u8], at: usize) -> usize
-    requires { ⌜ (p < nextAt (now tape) p) × Valid (now src) (now tape) p (nextAt (now tape) p) × (i < 1000) × (at + 163840 * (nextAt (now tape) p - p) < 2 ^ 61) ⌝ }
-    ensures { λ r. ⌜ Renders (versionText i) (now (src .entry)) (now (tape .entry)) p (nextAt (now (tape .entry)) p) (now (out .entry)) at r (now (out .exit)) ⌝ }
+// Gives version i of the archive of n versions that lies on the tape, if there is one and it fits.
+fn give_version(src: &[u8], tape: &[u32], hi: usize, n: usize, i: usize, out: &mut [u8]) -> Answer
+    requires { ⌜ Lies (now src) (now tape) hi n ⌝ }
+    ensures { λ r. ⌜ ((f : Forest) → Tape (now (src .entry)) (now (tape .entry)) 0 hi f
+        → Gives (asked n i (length (now (out .entry))) (versionText i f)) (r .number) (r .length) (now (out .entry)) (now (out .exit))) ⌝ }
 {
-    let v = view_at(tape, p);
-    if v.kind == 0 {
-        return put_text(src, v.start, v.end, out, at);
+    if i < 1 {
+        return Answer {
+            number: 11,
+            length: 0,
+        };
     }
-    if v.kind == 1 {
-        let inside = put_open(true, src, v.start, v.end, out, at);
-        let close = write_version(src, tape, p + 1, v.next, i, out, inside);
-        return put_close(true, src, v.start, v.end, out, close);
+    if n < i {
+        return Answer {
+            number: 11,
+            length: 0,
+        };
     }
-    let start = v.start;
-    let end = v.end;
-    if belongs(&src[start..end], i) {
-        return write_version(src, tape, p + 1, v.next, i, out, at);
+    let mut none = [0u8; 0];
+    let count = write_version(src, tape, 0, hi, i, &mut none, 0);
+    if out.len() < count {
+        return Answer {
+            number: 14,
+            length: 0,
+        };
     }
-    at
+    write_version(src, tape, 0, hi, i, out, 0);
+    Answer {
+        number: 0,
+        length: count,
+    }
 }
 
-// Writes what of the nodes lo to hi is in version i.
-pub fn write_version(
-    src: &[u8],
-    tape: &[u32],
-    lo: usize,
-    hi: usize,
+// Retrieves version i under the key list of a table.
+fn retrieve_under(
+    text: &[u8],
+    table: &[u32],
+    paths: usize,
+    archive: &[u8],
     i: usize,
     out: &mut [u8],
-    at: usize,
-) -> usize
-    requires { ⌜ Valid (now src) (now tape) lo hi × (i < 1000) × (at + 163840 * (hi - lo) < 2 ^ 61) ⌝ }
-    ensures { λ r. ⌜ Renders (versionText i) (now (src .entry)) (now (tape .entry)) lo hi (now (out .entry)) at r (now (out .exit)) ⌝ }
+    work: &mut [u32],
+) -> Answer
+    requires { ⌜ Tabled (now text) (now table) paths × (length (now archive) ≤ 32768) × (16384 ≤ length (now work)) ⌝ }
+    ensures { λ r. ⌜ ((K : KeyList) → TableOf (now (text .entry)) (now (table .entry)) paths K
+        → Gives (askedOf (versionText i) K (now (archive .entry)) i (length (now (out .entry)))) (r .number) (r .length) (now (out .entry)) (now (out .exit))) ⌝ }
 {
-    let mut p = lo;
-    let mut to = at;
-    while p < hi {
-        to = write_node(src, tape, p, i, out, to);
-        let v = view_at(tape, p);
-        p = v.next;
+    match open(text, table, paths, archive, work) {
+        Opened::Done(hi, n) => give_version(archive, work, hi, n, i, out),
+        Opened::Illegal => Answer {
+            number: 10,
+            length: 0,
+        },
     }
-    to
+}
+
+// Retrieves version i, with room to work in.
+fn retrieve_in(keys: &[u8], archive: &[u8], i: usize, out: &mut [u8], work: &mut [u32]) -> Answer
+    requires { ⌜ 16384 ≤ length (now work) ⌝ }
+    ensures { λ r. ⌜ Gives (askedIn (versionText i) (now (keys .entry)) (now (archive .entry)) i (length (now (out .entry))))
+        (r .number) (r .length) (now (out .entry)) (now (out .exit)) ⌝ }
+{
+    if 4096 < keys.len() {
+        return Answer {
+            number: 2,
+            length: 0,
+        };
+    }
+    if 32768 < archive.len() {
+        return Answer {
+            number: 2,
+            length: 0,
+        };
+    }
+    let mut table = [0u32; 256];
+    match load(keys, &mut table) {
+        Loaded::Table(paths) => retrieve_under(keys, &table, paths, archive, i, out, work),
+        Loaded::Notation => Answer {
+            number: 3,
+            length: 0,
+        },
+        Loaded::Rules => Answer {
+            number: 4,
+            length: 0,
+        },
+    }
+}
+
+// Retrieves version i of an archive.
+pub fn retrieve(keys: &[u8], archive: &[u8], i: usize, out: &mut [u8], work: &mut [u32]) -> Answer
+    ensures { λ r. ⌜ Ends (retrieved (now (keys .entry)) (now (archive .entry)) i (length (now (out .entry))) (length (now (work .entry))))
+        (now (out .entry)) (now (work .entry)) (r .number) (r .length) (now (out .exit)) (now (work .exit)) ⌝ }
+{
+    if work.len() < 16384 {
+        return Answer {
+            number: 1,
+            length: 0,
+        };
+    }
+    let answer = retrieve_in(keys, archive, i, out, work);
+    clear(work);
+    answer
 }

@@ -1,0 +1,145 @@
+// A sibling of the archive where a version is added: an element, bare or in a `T` of its own.
+use keys::label::compare_labels;
+use timestamp::Timestamp;
+use walks::history::element_at;
+use walks::timed::put_newest;
+use walks::timed::put_timed;
+use walks::timed::put_times;
+use walks::timed::read_times;
+use xml::tape::view_at;
+use xml::writer::put_word;
+use xml::writer::write_at;
+ghost use mathlib.Core.Path.{_≡_};
+ghost use mathlib.Core.Option.{Option};
+ghost use mathlib.Core.List.{List};
+ghost use Prim.Native.Nat.{ℕ, _+_, _*_, _-_, _^_, _<_, _≤_};
+ghost use lib.ListN.{length};
+ghost use Rattle.xml.specs.Bytes.{Bytes};
+ghost use Rattle.xml.specs.Over.{Wrote};
+ghost use Rattle.xml.specs.Forest.{Forest, write};
+ghost use Rattle.xml.specs.Tape.{headAt, endIn, nextAt, Tape, Valid};
+ghost use Rattle.keys.specs.KeyList.{Path, KeyList};
+ghost use Rattle.keys.specs.Version.{label};
+ghost use Rattle.keys.specs.Placed.{OfPlace};
+ghost use Rattle.timestamp.specs.Times.{Times};
+ghost use Rattle.versions.specs.Walk.{firstLabel, addNew};
+ghost use Rattle.versions.specs.AddParts.{Holds, setIn, oldPart, opened, closed, orderOf, SetOf, VersionIn, At};
+ghost use Rattle.versions.specs.AddWalk.{SomeNext};
+
+// Its set, in an element that stands in the versions `around`.
+pub fn set_of(src: &[u8], tape: &[u32], p: usize, around: Timestamp) -> Timestamp
+    requires { ⌜ (2 * p + 1 < length (now tape)) × (endIn (headAt (now tape) p) ≤ length (now src)) ⌝ }
+    ensures { λ r. ⌜ ((n : ℕ) (t : Times) (o : Option Bytes) (m : Bytes) (k : Forest) → n ≤ 999 → At (now (src .entry)) (now (tape .entry)) p o m k
+        → SetOf n o → Holds n (around .words) t → Holds n (r .words) (setIn n t o)) ⌝ }
+{
+    let v = view_at(tape, p);
+    if v.kind == 2 {
+        return read_times(src, v.start, v.end);
+    }
+    around
+}
+
+// Writes the opening tag of its `T`, if it has one, with the set and n + 1.
+pub fn open_set(
+    tape: &[u32],
+    p: usize,
+    set: Timestamp,
+    n: usize,
+    out: &mut [u8],
+    at: usize,
+) -> usize
+    requires { ⌜ (2 * p + 1 < length (now tape)) × (n ≤ 998) × (at < 2 ^ 59) ⌝ }
+    ensures { λ r. ⌜ ((src : List ℕ) (o : Option Bytes) (m : Bytes) (k : Forest) (t : Times) → At src (now (tape .entry)) p o m k → Holds n (set .words) t
+        → Wrote (now (out .entry)) at (opened t o) r (now (out .exit))) × (r ≤ at + 3008) ⌝ }
+{
+    let v = view_at(tape, p);
+    if v.kind == 2 {
+        return put_times(set.with(n + 1), out, at);
+    }
+    at
+}
+
+// And its closing tag.
+pub fn close_set(tape: &[u32], p: usize, out: &mut [u8], at: usize) -> usize
+    requires { ⌜ (2 * p + 1 < length (now tape)) × (at < 2 ^ 59) ⌝ }
+    ensures { λ r. ⌜ ((src : List ℕ) (o : Option Bytes) (m : Bytes) (k : Forest) → At src (now (tape .entry)) p o m k
+        → Wrote (now (out .entry)) at (closed o) r (now (out .exit))) × (r ≤ at + 4) ⌝ }
+{
+    let v = view_at(tape, p);
+    if v.kind == 2 {
+        return put_word(b"</T>", out, at);
+    }
+    at
+}
+
+// Writes it where the version lacks it: it is in a `T` now.
+pub fn write_old(
+    src: &[u8],
+    tape: &[u32],
+    p: usize,
+    around: Timestamp,
+    out: &mut [u8],
+    at: usize,
+) -> usize
+    requires { ⌜ (p < nextAt (now tape) p) × Valid (now src) (now tape) p (nextAt (now tape) p) × (nextAt (now tape) p ≤ 2 ^ 32) × (at < 2 ^ 59) ⌝ }
+    ensures { λ r. ⌜ ((n : ℕ) (t : Times) (o : Option Bytes) (m : Bytes) (k : Forest) → n ≤ 999 → At (now (src .entry)) (now (tape .entry)) p o m k
+        → Holds n (around .words) t → Wrote (now (out .entry)) at (write (oldPart t o m k)) r (now (out .exit)))
+        × (r ≤ at + 3012 + 163840 * (nextAt (now (tape .entry)) p - p)) ⌝ }
+{
+    let v = view_at(tape, p);
+    if v.kind == 2 {
+        return write_at(src, tape, p, v.next, out, at);
+    }
+    put_timed(around, src, tape, p, v.next, out, at)
+}
+
+// Writes the elements vlo to vhi of the version as what version n + 1 alone has.
+pub fn write_new(
+    vsrc: &[u8],
+    vtape: &[u32],
+    vlo: usize,
+    vhi: usize,
+    n: usize,
+    out: &mut [u8],
+    at: usize,
+) -> usize
+    requires { ⌜ (n ≤ 998) × Valid (now vsrc) (now vtape) vlo vhi × (vhi ≤ 2 ^ 32) × (at + 262144 * (vhi - vlo) < 2 ^ 59) ⌝ }
+    ensures { λ r. ⌜ ((K : KeyList) (w : Path) (v : Forest) → Tape (now (vsrc .entry)) (now (vtape .entry)) vlo vhi v → VersionIn K w v
+        → Wrote (now (out .entry)) at (write (addNew K n w v)) r (now (out .exit))) × (r ≤ at + 262144 * (vhi - vlo)) ⌝ }
+{
+    let mut q = vlo;
+    let mut to = at;
+    while q < vhi {
+        let w = view_at(vtape, q);
+        to = put_newest(n, vsrc, vtape, q, w.next, out, to);
+        q = w.next;
+    }
+    to
+}
+
+// How the label of the sibling at p compares with that of the version's next element, q: 0 before, also where none is left, 1 the same,
+// 2 after.
+pub fn order_of(
+    text: &[u8],
+    table: &[u32],
+    paths: usize,
+    place: usize,
+    src: &[u8],
+    tape: &[u32],
+    p: usize,
+    vsrc: &[u8],
+    vtape: &[u32],
+    q: usize,
+    vhi: usize,
+) -> u8
+    requires { ⌜ SomeNext (now text) (now table) paths place (now src) (now tape) p (now vsrc) (now vtape) q vhi ⌝ }
+    ensures { λ r. ⌜ OfPlace (now (text .entry)) (now (table .entry)) paths place (λ K w. (o : Option Bytes) (m : Bytes) (k v : Forest)
+        → At (now (src .entry)) (now (tape .entry)) p o m k → Tape (now (vsrc .entry)) (now (vtape .entry)) q vhi v → VersionIn K w v
+        → r ≡ orderOf (label K w m k) (firstLabel K w v)) ⌝ }
+{
+    if vhi <= q {
+        return 0;
+    }
+    let e = element_at(tape, p);
+    compare_labels(text, table, paths, place, src, tape, e, vsrc, vtape, q)
+}

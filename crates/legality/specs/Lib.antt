@@ -1,0 +1,5 @@
+pub mod Measured
+pub mod Going
+pub mod Layered
+pub mod SmallLaws
+pub mod Opened

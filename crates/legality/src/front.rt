@@ -1,0 +1,207 @@
+// What a frontier holds: one content, or two or more that share its versions.
+use crate::mark::mark;
+use crate::times::times_at;
+use timestamp::Timestamp;
+use xml::compare::same_bytes;
+use xml::compare::same_nodes;
+use xml::tape::view_at;
+ghost use mathlib.Core.Path.{_≡_};
+ghost use mathlib.Core.Bool.{not, _&&_};
+ghost use Prim.Native.Nat.{_≤_};
+ghost use lib.ListN.{length};
+ghost use lib.Seq.{slice};
+ghost use Rattle.xml.specs.Forest.{Forest, end, sameForest};
+ghost use Rattle.xml.specs.Tape.{Tape, Valid};
+ghost use Rattle.keys.specs.Legal.{untimed};
+ghost use Rattle.timestamp.specs.Times.{Times};
+ghost use Rattle.timestamp.specs.Set.{setOf, none};
+ghost use Rattle.timestamp.specs.Listed.{listed, Only};
+ghost use Rattle.versions.specs.Walk.{frontLegal};
+ghost use Rattle.versions.specs.Untimed.{timedNode};
+ghost use Rattle.versions.specs.Branches.{repeats, follows, judged};
+ghost use Rattle.versions.specs.Marks.{MarkOf, Notes};
+
+// A node of this kind, named by src[a..e], is a `T` or an element with that name.
+pub fn is_timed(src: &[u8], kind: u32, a: usize, e: usize) -> bool
+    requires { ⌜ (a ≤ e) × (e ≤ length (now src)) ⌝ }
+    ensures { λ r. ⌜ r ≡ timedNode kind (slice a e (now (src .entry))) ⌝ }
+{
+    if kind == 2 {
+        return true;
+    }
+    if kind == 1 {
+        return same_bytes(src, a, e, b"T", 0, 1);
+    }
+    false
+}
+
+// No node lo to hi is one.
+pub fn is_untimed(src: &[u8], tape: &[u32], lo: usize, hi: usize) -> bool
+    requires { ⌜ Valid (now src) (now tape) lo hi ⌝ }
+    ensures { λ r. ⌜ ((f : Forest) → Tape (now (src .entry)) (now (tape .entry)) lo hi f → r ≡ untimed f) ⌝ }
+{
+    let mut i = lo;
+    while i < hi {
+        let v = view_at(tape, i);
+        if is_timed(src, v.kind, v.start, v.end) {
+            return false;
+        }
+        i += 1;
+    }
+    true
+}
+
+// The nodes a to e, with the mark m, are the nodes lo to hi, with the mark x.
+fn same_content(
+    src: &[u8],
+    tape: &[u32],
+    a: usize,
+    e: usize,
+    m: u32,
+    lo: usize,
+    hi: usize,
+    x: u32,
+) -> bool
+    requires { ⌜ Valid (now src) (now tape) a e × Valid (now src) (now tape) lo hi × MarkOf (now src) (now tape) a e m × MarkOf (now src) (now tape) lo hi x ⌝ }
+    ensures { λ r. ⌜ ((k g : Forest) → Tape (now (src .entry)) (now (tape .entry)) a e k → Tape (now (src .entry)) (now (tape .entry)) lo hi g
+        → r ≡ sameForest k g) ⌝ }
+{
+    if x != m {
+        return false;
+    }
+    same_nodes(src, tape, a, e, src, tape, lo, hi)
+}
+
+// The nodes a to e, with the mark m, are what one of the nodes lo to hi holds; the marks of what those hold are the first of `marks`.
+fn is_repeated(
+    src: &[u8],
+    tape: &[u32],
+    lo: usize,
+    hi: usize,
+    a: usize,
+    e: usize,
+    marks: &[u32],
+    m: u32,
+) -> bool
+    requires { ⌜ Valid (now src) (now tape) lo hi × Valid (now src) (now tape) a e × MarkOf (now src) (now tape) a e m
+        × Notes (now src) (now tape) lo hi (now marks) 0 ⌝ }
+    ensures { λ r. ⌜ ((d k : Forest) → Tape (now (src .entry)) (now (tape .entry)) lo hi d → Tape (now (src .entry)) (now (tape .entry)) a e k
+        → r ≡ repeats k d) ⌝ }
+{
+    let mut p = lo;
+    let mut j = 0usize;
+    while p < hi {
+        let v = view_at(tape, p);
+        let x = marks[j];
+        if same_content(src, tape, a, e, m, p + 1, v.next, x) {
+            return true;
+        }
+        p = v.next;
+        j += 1;
+    }
+    false
+}
+
+// The nodes a to e, with the mark m, have no `T`, and none of the nodes lo to hi holds the same.
+fn content_legal(
+    src: &[u8],
+    tape: &[u32],
+    lo: usize,
+    hi: usize,
+    a: usize,
+    e: usize,
+    marks: &[u32],
+    m: u32,
+) -> bool
+    requires { ⌜ Valid (now src) (now tape) lo hi × Valid (now src) (now tape) a e × MarkOf (now src) (now tape) a e m
+        × Notes (now src) (now tape) lo hi (now marks) 0 ⌝ }
+    ensures { λ r. ⌜ ((d k : Forest) → Tape (now (src .entry)) (now (tape .entry)) lo hi d → Tape (now (src .entry)) (now (tape .entry)) a e k
+        → r ≡ (untimed k && not (repeats k d))) ⌝ }
+{
+    if !is_untimed(src, tape, a, e) {
+        return false;
+    }
+    !is_repeated(src, tape, lo, hi, a, e, marks, m)
+}
+
+// The set is one of versions 1 to n, has none of the union of those before it, and begins after `first`.
+fn may_follow(set: Timestamp, n: usize, union: Timestamp, first: usize) -> bool
+    requires { ⌜ n ≤ 999 ⌝ }
+    ensures { λ r. ⌜ r ≡ follows n (setOf (union .words)) first (setOf (set .words)) ⌝ }
+{
+    if !set.within(Timestamp::up_to(n)) {
+        return false;
+    }
+    if !set.disjoint(union) {
+        return false;
+    }
+    first < set.first()
+}
+
+// The nodes lo to hi are two or more contents, each in a `T`, that share the versions `times`.
+fn branches_legal(
+    src: &[u8],
+    tape: &[u32],
+    lo: usize,
+    hi: usize,
+    n: usize,
+    times: Timestamp,
+) -> bool
+    requires { ⌜ Valid (now src) (now tape) lo hi × (n ≤ 999) ⌝ }
+    ensures { λ r. ⌜ ((f : Forest) → Tape (now (src .entry)) (now (tape .entry)) lo hi f → r ≡ judged n (setOf (times .words)) none 0 0 end f) ⌝ }
+{
+    let mut p = lo;
+    let mut count = 0usize;
+    let mut union = Timestamp::empty();
+    let mut first = 0usize;
+    let mut marks = [0u32; 1000];
+    while p < hi {
+        let v = view_at(tape, p);
+        if v.kind != 2 {
+            return false;
+        }
+        let b = times_at(src, v.start, v.end);
+        if !b.ok {
+            return false;
+        }
+        if !may_follow(b.stamp, n, union, first) {
+            return false;
+        }
+        let m = mark(src, tape, p + 1, v.next);
+        if !content_legal(src, tape, lo, p, p + 1, v.next, &marks, m) {
+            return false;
+        }
+        marks[count] = m;
+        union = union.union(b.stamp);
+        first = b.stamp.first();
+        count += 1;
+        p = v.next;
+    }
+    if count < 2 {
+        return false;
+    }
+    union.same(times)
+}
+
+// What a frontier that stands in the versions `times` holds.
+pub fn front_legal(
+    src: &[u8],
+    tape: &[u32],
+    lo: usize,
+    hi: usize,
+    n: usize,
+    times: Timestamp,
+) -> bool
+    requires { ⌜ Valid (now src) (now tape) lo hi × (n ≤ 999) ⌝ }
+    ensures { λ r. ⌜ ((f : Forest) (t : Times) → Tape (now (src .entry)) (now (tape .entry)) lo hi f → Only n (setOf (times .words))
+        → listed n (setOf (times .words)) ≡ t → r ≡ frontLegal n t f) ⌝ }
+{
+    if hi <= lo {
+        return true;
+    }
+    let v = view_at(tape, lo);
+    if v.kind == 2 {
+        return branches_legal(src, tape, lo, hi, n, times);
+    }
+    is_untimed(src, tape, lo, hi)
+}

@@ -1,0 +1,7 @@
+// Is a text a legal archive? It is read, and judged in one walk.
+pub mod front;
+pub mod legal;
+pub mod mark;
+pub mod open;
+pub mod sizes;
+pub mod times;

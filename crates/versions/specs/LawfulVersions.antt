@@ -1,0 +1,108 @@
+-- The versions of a legal archive are legal, and so is the archive of its first versions.
+use Prim.Native.Nat.{ℕ, zero, suc, _<_, _≤_}
+use mathlib.Core.Path.{_≡_, refl, sym, _∙_, ap, subst}
+use mathlib.Core.Bool.{Bool, true, false}
+use mathlib.Core.Option.{Option, none, some}
+use mathlib.Core.List.{List, [], _∷_}
+use native.Mathlib.Omega.{arith}
+use lib.ListN.{length, take, getD, getD-replicate}
+use lib.Seq.{length-take-le}
+use Rattle.xml.specs.Bytes.{Bytes}
+use Rattle.xml.specs.Forest.{end, text}
+use Rattle.model.specs.Masks.{clash}
+use Rattle.model.specs.Gather.{gather, All, all-snoc, all-take}
+use Rattle.model.specs.Keyed.{Tree, nil, node, isSome, grown, sift}
+use Rattle.model.specs.Orders.{labels}
+use Rattle.model.specs.Groups.{Groups, atG, WFG}
+use Rattle.model.specs.Ledger.{reads}
+use Rattle.model.specs.Rebuilt.{ascending-sift, WFBy-ascending}
+use Rattle.model.specs.Sifted.{look-sift, mask-at, all-at}
+use Rattle.model.specs.Stored.{mergeS, versionS, cutS, maskG}
+use Rattle.model.specs.Theorems.{versions, formed-archive, versions-ascend, length-versions, archive-cut}
+use Rattle.keys.specs.KeyList.{Path, KeyList, rulesKept, contextsInNotation, above, keyNamesAt}
+use Rattle.keys.specs.Version.{_▸_, Label, nameIn}
+use Rattle.keys.specs.Address.{valuesIn}
+use Rattle.keys.specs.Tree.{Content, front, contents}
+use Rattle.keys.specs.Legal.{Kind, KeyChildren, Lawful, InnerContent, FrontContent, KeyContent, LawfulVersion, Sole, LegalTree}
+use Rattle.timestamp.specs.Times.{always}
+use Rattle.versions.specs.Archive.{Archive}
+use Rattle.versions.specs.Lawful.{InnerEntry, FrontEntry, KeyEntry, LawfulArchive, Rooted, LegalArchive}
+use Rattle.versions.specs.LawfulLaws.{children-one}
+use Rattle.versions.specs.LawfulMerge.{archive-legal-tree}
+
+module _ (n i : ℕ) where
+  -- a key child stands where its element does
+  child-at : (gs : Groups Content) (c d : Content) → atG i gs ≡ some c → atG i ((maskG n gs, d) ∷ []) ≡ some d
+  unfolding atG
+  child-at gs c d e = rw (mask-at n i gs, e)
+
+  kind-at : (b : Bool) (gs : Groups Content) (c : Content) (k : Archive) → atG i gs ≡ some c → Kind InnerEntry FrontEntry b gs k → Kind InnerContent FrontContent b c (versionS i k)
+  unfolding sift
+  kind-at true gs c k e x = rw e at (all-at InnerContent i gs x)
+  kind-at false gs c k e x = (rw e at (all-at FrontContent i gs (x .0)), rw (x .1))
+
+  keys-at : (gs : Groups Content) (c : Content) (k : Archive) → atG i gs ≡ some c → (ns vs : List Bytes) → KeyChildren (KeyEntry n) ns vs gs k → KeyChildren KeyContent ns vs c (versionS i k)
+  keys-at gs c k e ns vs x = children-one (KeyEntry n) KeyContent gs k c (versionS i k)
+      (λ m v f. look-sift labels (atG i) k (m ∷ []) f (child-at gs c (front (text v end)) e)) ns vs x
+
+  lawful-at : (K : KeyList) (p : Path) (a : Archive) → LawfulArchive K n p a → LawfulVersion K p (versionS i a)
+  unfolding Lawful sift
+  lawful-at K p nil x = tt
+  lawful-at K p (node l gs k r) x = go (atG i gs) refl (lawful-at K (p ▸ nameIn l) k (x .5)) (lawful-at K p r (x .6))
+    where
+      go : (o : Option Content) → atG i gs ≡ o → LawfulVersion K (p ▸ nameIn l) (versionS i k) → LawfulVersion K p (versionS i r)
+          → LawfulVersion K p (grown l o (versionS i k) (versionS i r))
+      go none e y z = z
+      go (some c) e y z = (
+        x .0,
+        x .1,
+        x .2,
+        kind-at (above K (p ▸ nameIn l)) gs c k e (x .3),
+        keys-at gs c k e (keyNamesAt K (p ▸ nameIn l)) (valuesIn l) (x .4),
+        y,
+        z,
+      )
+
+  sole-at : (a : Archive) → i < n → Rooted n a → Sole (versionS i a)
+  unfolding sift always
+  sole-at nil b x = absurd x
+  sole-at (node l gs k r) b x = go (atG i gs) (sym (mask-at n i gs) ∙ ap (λ p. getD p i false) (x .1) ∙ getD-replicate n i true false b)
+    where
+      go : (o : Option Content) → isSome o ≡ true → Sole (grown l o (versionS i k) (versionS i r))
+      go none e = absurd (clash e refl)
+      go (some c) e = rw (x .0)
+
+pub version-legal-tree : (K : KeyList) (n i : ℕ) (a : Archive) → LegalArchive K n a → i < n → LegalTree K (versionS i a)
+version-legal-tree K n i a x b = record {
+  ascends = ascending-sift labels (atG i) a (WFBy-ascending labels (WFG contents n) (maskG n) a (x .formed));
+  lawful = lawful-at n i K [] a (x .lawful);
+  sole = sole-at n i a b (x .rooted);
+}
+
+-- all of them, and the first m
+versions-legal-to : (K : KeyList) (n m : ℕ) (a : Archive) → LegalArchive K n a → m ≤ n → All (LegalTree K) (reads versionS m a)
+unfolding reads
+versions-legal-to K n zero a x b = tt
+versions-legal-to K n (suc m) a x b = all-snoc (LegalTree K) (reads versionS m a) (versionS m a) (versions-legal-to K n m a x (omega arith)) (version-legal-tree K n m a x b)
+
+pub versions-legal : (K : KeyList) (n : ℕ) (a : Archive) → LegalArchive K n a → All (LegalTree K) (versions labels contents n a)
+versions-legal K n a x = versions-legal-to K n n a x (omega arith)
+
+pub cut-legal : (K : KeyList) (n i : ℕ) (a : Archive) (kept : rulesKept K ≡ true) (notation : contextsInNotation K ≡ true)
+    → LegalArchive K n a → 1 ≤ i → i ≤ n → LegalArchive K i (cutS i a)
+cut-legal K n i a kept notation x b c =
+    subst (λ m. LegalArchive K m (cutS i a)) size
+    (subst (λ t. LegalArchive K (length (take i vs)) t) (sym cut-is)
+    (archive-legal-tree K (take i vs) kept notation (all-take (LegalTree K) i vs (versions-legal K n a x)) (omega (arith, size))))
+  where
+    vs : List (Tree Label Content)
+    vs = versions labels contents n a
+
+    long : i ≤ length vs
+    long = rw (length-versions labels contents n a) c
+
+    size : length (take i vs) ≡ i
+    size = length-take-le i vs long
+
+    cut-is : cutS i a ≡ gather (mergeS labels contents) 0 nil (take i vs)
+    cut-is = ap (cutS i) (sym (formed-archive labels contents n a (x .formed))) ∙ archive-cut labels contents vs (versions-ascend labels contents n a (x .formed)) i long

@@ -1,0 +1,62 @@
+-- The record of one station: the worked archives, and the table P1 to P10.
+use Prim.Native.Nat.{ℕ}
+use mathlib.Core.Path.{_≡_, refl}
+use mathlib.Core.List.{List, [], _∷_, map}
+use Rattle.xml.specs.Bytes.{Bytes, bytes}
+use Rattle.versions.specs.Calls.{Answer, found, add, retrieve, history, stepBack, calls-compute}
+
+abbrev keys : Bytes
+keys = bytes "(/, (station, {}))\n(/station, (light, {}))\n(/station, (lamp, {pos}))\n(/station/lamp, (type, {}))\n(/station/lamp, (hours, {}))\n"
+
+abbrev v1 : Bytes
+v1 = bytes "<station><light>Fl 5s</light><lamp><pos>2</pos><type>A</type><hours>40</hours></lamp></station>"
+
+abbrev v2 : Bytes
+v2 = bytes "<station><light>Fl 5s</light><lamp><pos>2</pos><type>A</type><hours>90</hours></lamp><lamp><pos>1</pos><type>B</type></lamp></station>"
+
+abbrev v3 : Bytes
+v3 = bytes "<station><light>Fl 5s</light><lamp><pos>1</pos><type>B</type></lamp></station>"
+
+abbrev line1 : Bytes
+line1 = bytes "<T t=\"1\"><station><lamp><hours>40</hours><pos>2</pos><type>A</type></lamp><light>Fl 5s</light></station></T>"
+
+abbrev line2 : Bytes
+line2 = bytes "<T t=\"1-2\"><station><T t=\"2\"><lamp><pos>1</pos><type>B</type></lamp></T><lamp><hours><T t=\"1\">40</T><T t=\"2\">90</T></hours><pos>2</pos><type>A</type></lamp><light>Fl 5s</light></station></T>"
+
+abbrev line3 : Bytes
+line3 = bytes "<T t=\"1-3\"><station><T t=\"2-3\"><lamp><pos>1</pos><type>B</type></lamp></T><T t=\"1-2\"><lamp><hours><T t=\"1\">40</T><T t=\"2\">90</T></hours><pos>2</pos><type>A</type></lamp></T><light>Fl 5s</light></station></T>"
+
+abbrev twoLamps : Bytes
+twoLamps = bytes "<station><lamp><pos>2</pos></lamp><lamp><pos>2</pos></lamp></station>"
+
+abbrev noPos : Bytes
+noPos = bytes "<station><lamp><type>A</type></lamp></station>"
+
+abbrev success : Bytes → Answer
+success s = record { number = 0; bytes = s }
+
+abbrev refusal : ℕ → Answer
+refusal n = record { number = n; bytes = [] }
+
+-- what is asked, and what document 01 answers
+abbrev table : List (Answer × Answer)
+table =
+    (found keys v1 32768 16384, success line1) ∷
+    (add keys v2 line1 32768 16384, success line2) ∷
+    (add keys v3 line2 32768 16384, success line3) ∷
+    -- P1 to P5
+    (history keys line3 (bytes "/station/lamp[pos=\"1\"]") 32768 16384, success (bytes "2-3")) ∷
+    (history keys line3 (bytes "/station/lamp[pos=\"2\"]/hours") 32768 16384, success (bytes "1-2")) ∷
+    (history keys line3 (bytes "/station/lamp[pos=\"7\"]") 32768 16384, success []) ∷
+    (stepBack keys line3 2 32768 16384, success line2) ∷
+    (stepBack keys line3 1 32768 16384, success line1) ∷
+    -- P6 to P10
+    (stepBack keys line3 0 32768 16384, refusal 11) ∷
+    (retrieve keys line3 4 32768 16384, refusal 11) ∷
+    (add keys [] line3 32768 16384, refusal 5) ∷
+    (add keys twoLamps line3 32768 16384, refusal 9) ∷
+    (add keys noPos line3 32768 16384, refusal 8) ∷ []
+
+pub station : map (λ r. r .0) table ≡ map (λ r. r .1) table
+unfolding calls-compute
+station = refl

@@ -1,0 +1,2 @@
+pub mod HistoryParts
+pub mod HistoryWalk

@@ -1,0 +1,64 @@
+/* Faults for the example to find. Each stands between the example and one entry (the linker's --wrap) and spoils what
+ * the entry answers; the example must end with status 1. FAULT is the fault's number. */
+#include "station_archive.h"
+
+#include <string.h>
+
+#define LENT const uint8_t *keys, size_t keys_len, const uint8_t *archive, size_t archive_len
+#define LENT_ON keys, keys_len, archive, archive_len
+#define RESULT uint8_t *out, size_t out_len, size_t *length
+#define RESULT_ON out, out_len, length
+
+/* The archive in place of the result. */
+static uint32_t hand_back(const uint8_t *archive, size_t archive_len, uint32_t number, uint8_t *out, size_t *length) {
+    if (number != ARCHIVE_DONE) return number;
+    memcpy(out, archive, archive_len);
+    *length = archive_len;
+    return ARCHIVE_DONE;
+}
+
+/* 1: an add that hands back its archive. */
+uint32_t __real_archive_add(LENT, const uint8_t *version, size_t version_len, RESULT);
+uint32_t __wrap_archive_add(LENT, const uint8_t *version, size_t version_len, RESULT) {
+    uint32_t number = __real_archive_add(LENT_ON, version, version_len, RESULT_ON);
+    return FAULT == 1 ? hand_back(archive, archive_len, number, out, length) : number;
+}
+
+/* 2: a step back that does so. */
+uint32_t __real_archive_back(LENT, size_t i, RESULT);
+uint32_t __wrap_archive_back(LENT, size_t i, RESULT) {
+    uint32_t number = __real_archive_back(LENT_ON, i, RESULT_ON);
+    return FAULT == 2 ? hand_back(archive, archive_len, number, out, length) : number;
+}
+
+/* 3: a history that is empty for each address, whatever was written. */
+uint32_t __real_archive_history(LENT, const uint8_t *address, size_t address_len, RESULT);
+uint32_t __wrap_archive_history(LENT, const uint8_t *address, size_t address_len, RESULT) {
+    uint32_t number = __real_archive_history(LENT_ON, address, address_len, RESULT_ON);
+    if (FAULT == 3) *length = 0;
+    return number;
+}
+
+/* 4: a retrieval that writes one byte past its result. */
+uint32_t __real_archive_retrieve(LENT, size_t i, RESULT);
+uint32_t __wrap_archive_retrieve(LENT, size_t i, RESULT) {
+    uint32_t number = __real_archive_retrieve(LENT_ON, i, RESULT_ON);
+    if (FAULT == 4 && number == ARCHIVE_DONE) out[*length] = 0;
+    return number;
+}
+
+/* 5: a check that leaves the length as it was where it refuses. */
+uint32_t __real_archive_check_keys(const uint8_t *keys, size_t keys_len, size_t *length);
+uint32_t __wrap_archive_check_keys(const uint8_t *keys, size_t keys_len, size_t *length) {
+    size_t before = *length;
+    uint32_t number = __real_archive_check_keys(keys, keys_len, length);
+    if (FAULT == 5 && number != ARCHIVE_DONE) *length = before;
+    return number;
+}
+
+/* 6: a founding that succeeds, though the output is too short. */
+uint32_t __real_archive_found(const uint8_t *keys, size_t keys_len, const uint8_t *version, size_t version_len, RESULT);
+uint32_t __wrap_archive_found(const uint8_t *keys, size_t keys_len, const uint8_t *version, size_t version_len, RESULT) {
+    uint32_t number = __real_archive_found(keys, keys_len, version, version_len, RESULT_ON);
+    return FAULT == 6 && number == ARCHIVE_OUTPUT_SHORT ? ARCHIVE_DONE : number;
+}

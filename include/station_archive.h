@@ -1,0 +1,82 @@
+/* The station archive: the six calls of document 01, for the monitor's firmware.
+ * Link target/staticlib/libfirmware.a (made by `rt staticlib firmware`; x86-64 Linux).
+ *
+ * A text is a pointer and a length in bytes, with no 0 at its end. A call returns 0, or the number of the
+ * lowest row of document 01's table that applies (enum archive_number), and always writes *length:
+ * - returned 0: the result is the first *length bytes of out, the rest of out keeps its values;
+ * - returned anything else: *length is 0, out is untouched.
+ * This holds for all texts, numbers and lengths: crates/firmware/src/lib.rt states it of each entry, as equations
+ * with the definitions in crates/versions/specs/Calls.antt, and it is proved.
+ *
+ * The caller owes what C cannot check: each pointer is to as many bytes as the length beside it says, and
+ * neither out nor *length overlaps anything else that the call is lent. The texts are only read.
+ * The calls keep no state and allocate nothing, and of C's library use memcpy and memset alone. Their work cells
+ * (64 KiB) are on the caller's stack, of which a call takes some 90 KB in all (measured, not proved: 88,264 bytes
+ * was the most in trials with the deepest texts, legal and not).
+ */
+#ifndef STATION_ARCHIVE_H
+#define STATION_ARCHIVE_H
+
+#include <stddef.h>
+#include <stdint.h>
+
+#ifdef __cplusplus
+extern "C" {
+#endif
+
+/* What a call returns: 0, or a row of document 01's table "When a text is sent back". */
+enum archive_number {
+    ARCHIVE_DONE = 0,         /* success */
+    ARCHIVE_WORK = 1,         /* work under 16,384 cells: cannot be here, as each entry has 16,384 of its own */
+    ARCHIVE_LENGTH = 2,       /* key list over 4,096 bytes, version over 16,384, archive over 32,768, or address over 2,560 */
+    ARCHIVE_NOTATION = 3,     /* key list not in the notation */
+    ARCHIVE_RULES = 4,        /* key list breaks a rule */
+    ARCHIVE_XML = 5,          /* version not in the XML subset */
+    ARCHIVE_LARGE = 6,        /* version deeper than 16, over 512 nodes, or its written form over 16,384 bytes */
+    ARCHIVE_PATH = 7,         /* a path not in the list above or at a frontier, refused text, or the name T anywhere */
+    ARCHIVE_KEY = 8,          /* a key child missing, repeated or illegal */
+    ARCHIVE_SIBLINGS = 9,     /* two siblings with one name and key */
+    ARCHIVE_ILLEGAL = 10,     /* archive not legal */
+    ARCHIVE_VERSION = 11,     /* i not in 1 to n; or adding at n = 999 */
+    ARCHIVE_ADDRESS = 12,     /* address not of this form and list */
+    ARCHIVE_RESULT_LARGE = 13, /* result over 1,024 nodes or 32,768 bytes */
+    ARCHIVE_OUTPUT_SHORT = 14 /* output shorter than the result */
+};
+
+/* Lengths that are enough for any result, so that 14 is not returned. */
+enum archive_length {
+    ARCHIVE_LENGTH_ARCHIVE = 32768, /* of archive_found, archive_add, archive_back */
+    ARCHIVE_LENGTH_VERSION = 16384, /* of archive_retrieve */
+    ARCHIVE_LENGTH_HISTORY = 3000   /* of archive_history: the longest text of a set of 1 to 999 has 2,591 bytes */
+};
+
+/* Checks a key list. It has no output: *length is 0. Returns 0 or 2 to 4. */
+uint32_t archive_check_keys(const uint8_t *keys, size_t keys_len, size_t *length);
+
+/* Founds an archive: the result is the archive of the one version, in written form. Returns 0, 2 to 9 or 14. */
+uint32_t archive_found(const uint8_t *keys, size_t keys_len, const uint8_t *version, size_t version_len,
+                       uint8_t *out, size_t out_len, size_t *length);
+
+/* Adds a version: the result is the archive of the lent archive's n versions and this one, n + 1. The lent
+ * archive is the result of an earlier call, byte for byte. Returns 0, 2 to 11, 13 or 14. */
+uint32_t archive_add(const uint8_t *keys, size_t keys_len, const uint8_t *archive, size_t archive_len,
+                     const uint8_t *version, size_t version_len, uint8_t *out, size_t out_len, size_t *length);
+
+/* Retrieves version i, from 1 to n: the result is its written form. Returns 0, 2 to 4, 10, 11 or 14. */
+uint32_t archive_retrieve(const uint8_t *keys, size_t keys_len, const uint8_t *archive, size_t archive_len,
+                          size_t i, uint8_t *out, size_t out_len, size_t *length);
+
+/* Gives the history of an address, as /station/lamp[pos="2"]/hours: the result is the text of the set of the
+ * versions that hold it, as 1-3,5; empty (0, *length 0) if none does. Returns 0, 2 to 4, 10, 12 or 14. */
+uint32_t archive_history(const uint8_t *keys, size_t keys_len, const uint8_t *archive, size_t archive_len,
+                         const uint8_t *address, size_t address_len, uint8_t *out, size_t out_len, size_t *length);
+
+/* Steps back: the result is the archive of the lent archive's first i versions. Returns 0, 2 to 4, 10, 11 or 14. */
+uint32_t archive_back(const uint8_t *keys, size_t keys_len, const uint8_t *archive, size_t archive_len,
+                      size_t i, uint8_t *out, size_t out_len, size_t *length);
+
+#ifdef __cplusplus
+}
+#endif
+
+#endif
