@@ -11,7 +11,7 @@ use lib.Seq.{drop-cons}
 use borrow.Author.Tests.{ne-eqb, ltb-true}
 use Rattle.xml.specs.Bytes.{Bytes, isDigit, within}
 use Rattle.xml.specs.Truth.{and-left}
-use Rattle.timestamp.specs.Set.{setOf, none, joined, between}
+use Rattle.timestamp.specs.Set.{none, joined, between}
 use Rattle.timestamp.specs.Parse.{Outcome, refused, accepted, pickOutcome}
 use Rattle.timestamp.specs.declared.text.Reader.{Reader}
 
@@ -71,8 +71,9 @@ setIn (st s p lo n) = accepted s
 unfoldable pub readIn : Bytes → Outcome
 readIn l = setIn (closeIn (steps (st none 0 0 0) l))
 
-abbrev pub view : Reader → St
-view r = pickS (r .ok) (st (setOf (r .set .words)) (r .p) (r .lo) (r .n)) bad
+-- the state that a set and a reader are
+abbrev pub view : (ℕ → Bool) → Reader → St
+view s r = pickS (r .ok) (st s (r .p) (r .lo) (r .n)) bad
 
 pub steps-on : (x : St) (l : List ℕ) (at : ℕ) → at < length l → steps x (drop at l) ≡ steps (stepIn x (getD l at 0)) (drop (at + 1) l)
 unfolding steps

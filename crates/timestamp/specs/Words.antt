@@ -2,7 +2,7 @@
 use Prim.Native.Nat.{ℕ, _+_, _-_, _*_, _/_, _%_, _^_, _≤_, _<_, min}
 use mathlib.Core.Path.{_≡_, refl, sym, ap, ap₂, _∙_, fun-ext}
 use mathlib.Core.List.{List}
-use mathlib.Core.Bool.{and-false, Bool, true, false, not, _&&_, _||_, xor}
+use mathlib.Core.Bool.{and-false, and-true, or-false, or-true, Bool, true, false, not, _&&_, _||_, xor}
 use native.Mathlib.Omega.{arith}
 use native.Mathlib.Numerals.{add-one}
 use native.Mathlib.Decide.{decLt, ℕ-discrete}
@@ -111,20 +111,24 @@ cut-set a w n i la p l =
     (λ v q. bit-and _ _ _ ∙ ap (_&&_ (bit (getD a (v / 64) 0) (v % 64))) (mask-bit (n + 1) v ∙ ltb-up v n))
     (λ v q. ap (λ (x : Bool). x && leb v n) (past a la v q))
 
-pub range-set : (w : List ℕ) (lo hi i : ℕ) → lo ≤ hi + 1 → hi < 1024 → Filled (rangeWord lo hi) i w → 16 ≤ i → setOf w ≡ between lo hi
+-- the bits of a range's words
+pub range-bit : (lo hi v : ℕ) → lo ≤ hi + 1 → bit (rangeWord lo hi (v / 64)) (v % 64) ≡ between lo hi v
 unfolding xor
-range-set w lo hi i le hn p l =
-    filled-set (rangeWord lo hi) i w _ p l
-    (λ v q. bit-xor _ _ _ ∙ ap₂ xor (mask-bit (hi + 1) v ∙ ltb-up v hi) (mask-bit lo v) ∙ go v (decLt v lo))
-    (λ v q. ap (_&&_ (leb lo v)) (lt-leb v hi (omega arith)) ∙ and-false (leb lo v))
+range-bit lo hi v le = bit-xor _ _ _ ∙ ap₂ xor (mask-bit (hi + 1) v ∙ ltb-up v hi) (mask-bit lo v) ∙ go (decLt v lo)
   where
     not-self : (x : Bool) → xor x false ≡ x
     not-self true = refl
     not-self false = refl
 
-    go : (v : ℕ) → Dec (v < lo) → xor (leb v hi) (ltb v lo) ≡ (leb lo v && leb v hi)
-    go v (yes q) = rw (lt-ltb v lo q, lt-leb lo v q, le-leb v hi (omega arith))
-    go v (no q) = rw (le-ltb v lo (omega arith), le-leb lo v (omega arith)) (not-self (leb v hi))
+    go : Dec (v < lo) → xor (leb v hi) (ltb v lo) ≡ (leb lo v && leb v hi)
+    go (yes q) = rw (lt-ltb v lo q, lt-leb lo v q, le-leb v hi (omega arith))
+    go (no q) = rw (le-ltb v lo (omega arith), le-leb lo v (omega arith)) (not-self (leb v hi))
+
+pub range-set : (w : List ℕ) (lo hi i : ℕ) → lo ≤ hi + 1 → hi < 1024 → Filled (rangeWord lo hi) i w → 16 ≤ i → setOf w ≡ between lo hi
+range-set w lo hi i le hn p l =
+    filled-set (rangeWord lo hi) i w _ p l
+    (λ v q. range-bit lo hi v le)
+    (λ v q. ap (_&&_ (leb lo v)) (lt-leb v hi (omega arith)) ∙ and-false (leb lo v))
 
 pub with-set : (a : List ℕ) (v : ℕ) → length a ≡ 16 → v < 1024
     → setOf (set a (v / 64) (bitOr ((1 * 2 ^ (v % 64)) % 2 ^ 64) (getD a (v / 64) 0))) ≡ adding v (setOf a)
@@ -154,3 +158,66 @@ with-set a v la h = fun-ext (λ u. go u (ℕ-discrete (u / 64) (v / 64)))
 pub zeros-none : setOf (replicate 16 0) ≡ none
 zeros-none =
     filled-set (λ k. 0) 16 (replicate 16 0) none (record { size = refl; are = λ k l. getD-replicate 16 k 0 0 l }) (omega arith) (λ v q. bit-none _) (λ v q. refl)
+
+-- ---- a loop that puts a range into sixteen words
+-- the words w are those of a with the numbers lo to hi that stand below word k
+pub record Partly (a : List ℕ) (lo hi k : ℕ) (w : List ℕ) : Type 0 where
+  pub size : length w ≡ 16
+  pub are : (v : ℕ) → setOf w v ≡ (setOf a v || (between lo hi v && ltb v (k * 64)))
+
+or-all : (x b : Bool) → ((x || (b && false)) || b) ≡ (x || (b && true))
+or-all true b = refl
+or-all false true = refl
+or-all false false = refl
+
+-- at the word of lo nothing is put yet
+pub partly-none : (a : List ℕ) (lo hi : ℕ) → length a ≡ 16 → Partly a lo hi (lo / 64) a
+partly-none a lo hi e = record { size = e; are = λ v. sym (or-false (setOf a v)) ∙ ap (_||_ (setOf a v)) (sym (go v (decLt v lo))) }
+  where
+    go : (v : ℕ) → Dec (v < lo) → (between lo hi v && ltb v (lo / 64 * 64)) ≡ false
+    go v (yes q) = rw (lt-leb lo v q)
+    go v (no q) = rw (le-ltb v (lo / 64 * 64) (omega arith)) (and-false (between lo hi v))
+
+-- one word more
+pub partly-more : (a w : List ℕ) (lo hi k : ℕ) → lo ≤ hi → k < 16 → Partly a lo hi k w
+    → Partly a lo hi (k + 1) (set w k (bitOr (getD w k 0) (rangeWord lo hi k)))
+unfolding setOf
+partly-more a w lo hi k le h p =
+    record { size = length-set w k word ∙ p .size; are = λ v. go v (ℕ-discrete (v / 64) k) }
+  where
+    word : ℕ
+    word = bitOr (getD w k 0) (rangeWord lo hi k)
+
+    below : (v : ℕ) → (v / 64 ≡ k → ⊥) → Dec (v < k * 64) → ltb v (k * 64) ≡ ltb v ((k + 1) * 64)
+    below v n (yes q) = lt-ltb v (k * 64) q ∙ sym (lt-ltb v ((k + 1) * 64) (omega arith))
+    below v n (no q) = le-ltb v (k * 64) (omega arith) ∙ sym (le-ltb v ((k + 1) * 64) (omega arith))
+
+    go : (v : ℕ) → Dec (v / 64 ≡ k) → setOf (set w k word) v ≡ (setOf a v || (between lo hi v && ltb v ((k + 1) * 64)))
+    go v (yes e) =
+        ap (λ (x : ℕ). bit x (v % 64)) (ap (λ (n : ℕ). getD (set w k word) n 0) e ∙ getD-set-same w k word 0 (omega (arith, p .size)))
+        ∙ bit-or (getD w k 0) (rangeWord lo hi k) (v % 64)
+        ∙ ap₂ _||_
+        (ap (λ (n : ℕ). bit (getD w n 0) (v % 64)) (sym e) ∙ p .are v ∙ ap (λ (x : Bool). setOf a v || (between lo hi v && x)) (le-ltb v (k * 64) (omega arith)))
+        (ap (λ (n : ℕ). bit (rangeWord lo hi n) (v % 64)) (sym e) ∙ range-bit lo hi v (omega arith))
+        ∙ or-all (setOf a v) (between lo hi v)
+        ∙ ap (λ (x : Bool). setOf a v || (between lo hi v && x)) (sym (lt-ltb v ((k + 1) * 64) (omega arith)))
+    go v (no n) =
+        ap (λ (x : ℕ). bit x (v % 64)) (getD-set-other w k (v / 64) word 0 n)
+        ∙ p .are v ∙ ap (λ (x : Bool). setOf a v || (between lo hi v && x)) (below v n (decLt v (k * 64)))
+
+-- past the word of hi all of them are put
+pub partly-all : (a w : List ℕ) (lo hi k : ℕ) → hi / 64 < k → Partly a lo hi k w → setOf w ≡ joined (setOf a) (between lo hi)
+partly-all a w lo hi k h p = fun-ext (λ v. p .are v ∙ ap (_||_ (setOf a v)) (go v (decLt hi v)))
+  where
+    go : (v : ℕ) → Dec (hi < v) → (between lo hi v && ltb v (k * 64)) ≡ between lo hi v
+    go v (yes q) = rw (lt-leb v hi q, and-false (leb lo v))
+    go v (no q) = rw (lt-ltb v (k * 64) (omega arith)) (and-true (between lo hi v))
+
+-- a set with one number more is it with the range of that number
+pub adding-joined : (s : ℕ → Bool) (v : ℕ) → adding v s ≡ joined s (between v v)
+adding-joined s v = fun-ext (λ u. go u (ℕ-discrete u v) (decLt u v))
+  where
+    go : (u : ℕ) → Dec (u ≡ v) → Dec (u < v) → (eqb u v || s u) ≡ (s u || (leb v u && leb u v))
+    go u (yes q) d = rw (eq-eqb u v q, le-leb v u (omega arith), le-leb u v (omega arith)) (sym (or-true (s u)))
+    go u (no n) (yes q) = rw (ne-eqb u v n, lt-leb v u q) (sym (or-false (s u)))
+    go u (no n) (no q) = rw (ne-eqb u v n, lt-leb u v (omega arith), and-false (leb v u)) (sym (or-false (s u)))

@@ -4,6 +4,7 @@ pub mod write;
 
 ghost use mathlib.Core.Path.{_≡_};
 ghost use Prim.Native.Nat.{_+_, _-_, _*_, _^_, _<_, _≤_, min};
+ghost use lib.ListN.{length};
 ghost use lib.Count.{trailingZeros};
 ghost use Rattle.timestamp.specs.Set.{setOf, none, upTo, between, adding, cutAt, joined, shared, outside, sameSet, isNone, apart, subset, firstIn};
 
@@ -35,6 +36,32 @@ fn lowest(w: u64) -> usize
     ensures { λ r. ⌜ r ≡ trailingZeros 64 w ⌝ }
 {
     u64::trailing_zeros(w) as usize
+}
+
+// The number v put into the words of a set.
+fn add(words: &mut [u64; 16], v: usize)
+    requires { ⌜ (v < 1024) × (length (now words) ≡ 16) ⌝ }
+    ensures { λ r. ⌜ (setOf (now (words .exit)) ≡ adding v (setOf (now (words .entry)))) × (length (now (words .exit)) ≡ 16) ⌝ }
+{
+    let k = v / 64;
+    words[k] = (1u64 << (v % 64)) | words[k];
+}
+
+// The numbers lo to hi put into the words of a set; only the words that have some of them are touched.
+fn fill(words: &mut [u64; 16], lo: usize, hi: usize)
+    requires { ⌜ (lo ≤ hi) × (hi < 1024) × (length (now words) ≡ 16) ⌝ }
+    ensures { λ r. ⌜ (setOf (now (words .exit)) ≡ joined (setOf (now (words .entry))) (between lo hi)) × (length (now (words .exit)) ≡ 16) ⌝ }
+{
+    if lo == hi {
+        add(words, lo);
+        return;
+    }
+    let last = hi / 64;
+    let mut k = lo / 64;
+    while k <= last {
+        words[k] = words[k] | (mask(hi + 1, k) ^ mask(lo, k));
+        k += 1;
+    }
 }
 
 impl Timestamp {

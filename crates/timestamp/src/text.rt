@@ -1,10 +1,13 @@
 // A timestamp's text read: whether a number belongs to it, and the set that it is the text of.
 use crate::Timestamp;
+use crate::fill;
 ghost use mathlib.Core.Path.{_≡_};
-ghost use Prim.Native.Nat.{_+_, _-_, _*_, _<_, _≤_, min};
-ghost use lib.ListN.{getD};
+ghost use mathlib.Core.Bool.{Bool};
+ghost use Prim.Native.Nat.{ℕ, _+_, _-_, _*_, _<_, _≤_, min};
+ghost use lib.ListN.{getD, length};
 ghost use Rattle.timestamp.specs.Times.{belongs as isIn};
 ghost use Rattle.timestamp.specs.Belongs.{dashed, stepped, holds};
+ghost use Rattle.timestamp.specs.Set.{setOf};
 ghost use Rattle.timestamp.specs.Parse.{parsed, outcome};
 ghost use Rattle.timestamp.specs.Reading.{more, opens, closes, startAt, view, bad, digitIn, dashIn, closeIn, stepIn};
 ghost use Rattle.xml.specs.Bytes.{isDigit};
@@ -108,13 +111,12 @@ pub fn belongs(text: &[u8], v: usize) -> bool
     }
 }
 
-// What is read of a text: the set so far, the bound p that the next run must pass, the run's start or 0, and the number so far.
+// What is read of a text beside its set: whether it is right so far, the bound p that the next run must pass, the run's start or 0, and the number so far.
 pub struct Reader {
     pub ok: bool,
     pub p: usize,
     pub lo: usize,
     pub n: usize,
-    pub set: Timestamp,
 }
 
 // A text's set, where it is the text of one.
@@ -159,25 +161,24 @@ fn start_of(lo: usize, n: usize) -> usize
 }
 
 impl Reader {
+    // The text is refused.
     fn fail(self) -> Self
         requires { ⌜ self .n < 1000 ⌝ }
-        ensures { λ r. ⌜ (view r ≡ bad) × (r .n < 1000) ⌝ }
+        ensures { λ r. ⌜ ((s : ℕ → Bool) → view s r ≡ bad) × (r .n < 1000) ⌝ }
     {
-        let set = self.set;
         Reader {
             ok: false,
             p: self.p,
             lo: self.lo,
             n: self.n,
-            set: set,
         }
     }
 
+    // The number with one digit more.
     fn digit(self, b: u8) -> Self
         requires { ⌜ (self .n < 1000) × (48 ≤ b) × (b ≤ 57) ⌝ }
-        ensures { λ r. ⌜ (view r ≡ digitIn (view self) b) × (r .n < 1000) ⌝ }
+        ensures { λ r. ⌜ ((s : ℕ → Bool) → view s r ≡ digitIn (view s self) b) × (r .n < 1000) ⌝ }
     {
-        let set = self.set;
         let n = self.n;
         if may_follow(n, b) {
             Reader {
@@ -185,60 +186,59 @@ impl Reader {
                 p: self.p,
                 lo: self.lo,
                 n: n * 10 + ((b - 48) as usize),
-                set: set,
             }
         } else {
             self.fail()
         }
     }
 
+    // The number is a run's start.
     fn dash(self) -> Self
         requires { ⌜ self .n < 1000 ⌝ }
-        ensures { λ r. ⌜ (view r ≡ dashIn (view self)) × (r .n < 1000) ⌝ }
+        ensures { λ r. ⌜ ((s : ℕ → Bool) → view s r ≡ dashIn (view s self)) × (r .n < 1000) ⌝ }
     {
-        let set = self.set;
         if may_open(self.p, self.lo, self.n) {
             Reader {
                 ok: self.ok,
                 p: self.p,
                 lo: self.n,
                 n: 0,
-                set: set,
             }
         } else {
             self.fail()
         }
     }
 
-    fn close(self) -> Self
-        requires { ⌜ self .n < 1000 ⌝ }
-        ensures { λ r. ⌜ (view r ≡ closeIn (view self)) × (r .n < 1000) ⌝ }
+    // The number is a run's end, and the run is put into the words.
+    fn close(self, words: &mut [u64; 16]) -> Self
+        requires { ⌜ (self .n < 1000) × (length (now words) ≡ 16) ⌝ }
+        ensures { λ r. ⌜ (view (setOf (now (words .exit))) r ≡ closeIn (view (setOf (now (words .entry))) self)) × (r .n < 1000) × (length (now (words .exit)) ≡ 16) ⌝ }
     {
-        let set = self.set;
         let n = self.n;
         if may_close(self.p, self.lo, n) {
+            fill(words, start_of(self.lo, n), n);
             Reader {
                 ok: self.ok,
                 p: n + 1,
                 lo: 0,
                 n: 0,
-                set: set.union(Timestamp::range(start_of(self.lo, n), n)),
             }
         } else {
             self.fail()
         }
     }
 
-    fn step(self, b: u8) -> Self
-        requires { ⌜ self .n < 1000 ⌝ }
-        ensures { λ r. ⌜ (view r ≡ stepIn (view self) b) × (r .n < 1000) ⌝ }
+    // One byte more.
+    fn step(self, b: u8, words: &mut [u64; 16]) -> Self
+        requires { ⌜ (self .n < 1000) × (length (now words) ≡ 16) ⌝ }
+        ensures { λ r. ⌜ (view (setOf (now (words .exit))) r ≡ stepIn (view (setOf (now (words .entry))) self) b) × (r .n < 1000) × (length (now (words .exit)) ≡ 16) ⌝ }
     {
         if is_digit(b) {
             self.digit(b)
         } else if b == b'-' {
             self.dash()
         } else if b == b',' {
-            self.close()
+            self.close(words)
         } else {
             self.fail()
         }
@@ -249,22 +249,21 @@ impl Reader {
 pub fn parse(text: &[u8]) -> Parsed
     ensures { λ r. ⌜ outcome r ≡ parsed (now (text .entry)) ⌝ }
 {
+    let mut words = [0u64; 16];
     let mut x = Reader {
         ok: true,
         p: 0,
         lo: 0,
         n: 0,
-        set: Timestamp::empty(),
     };
     let mut at = 0;
     while at < text.len() {
-        x = x.step(text[at]);
+        x = x.step(text[at], &mut words);
         at += 1;
     }
-    let y = x.close();
-    let stamp = y.set;
+    let y = x.close(&mut words);
     Parsed {
         ok: y.ok,
-        stamp: stamp,
+        stamp: Timestamp { words: words },
     }
 }

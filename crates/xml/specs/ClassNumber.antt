@@ -1,12 +1,10 @@
 -- The classes of bytes as numbers, and what a number says of a byte.
 use Prim.Native.Nat.{ℕ, _/_, _<_, _≤_}
-use Prim.Native.Char.{code}
-use native.Mathlib.Omega.{arith}
-use mathlib.Core.Path.{_≡_, refl, _∙_, ap}
+use mathlib.Core.Path.{_≡_, refl, _∙_}
 use mathlib.Core.Bool.{true, false}
 use lib.Dec.{eqb, leb}
 use borrow.Author.Tests.{eq-eqb, ne-eqb, le-leb, lt-leb}
-use Rattle.xml.specs.Bytes.{Class, illegal, white, start, other, markup, plain, classOf, isWhite, isLegal, isStart, isNameByte, bytes-compute}
+use Rattle.xml.specs.Bytes.{Class, illegal, white, start, other, markup, plain, classOf, isWhite, isLegal, isStart, isNameByte}
 
 -- "illegal, white space, name start, other name byte, markup (`<`, `&`), other text"
 unfoldable pub classNumber : Class → ℕ
@@ -84,31 +82,8 @@ module _ (b : ℕ) {n : ℕ} (is : n ≡ classNumber (classOf b)) where
   pub legal-no : n < 1 → isLegal b ≡ false
   legal-no e = legal-number b ∙ rw (← is) (lt-leb 1 n e)
 
-  pub start-yes : n ≡ 2 → isStart b ≡ true
-  start-yes e = start-number b ∙ rw (← is) (eq-eqb n 2 e)
-
-  pub start-no : (n ≡ 2 → ⊥) → isStart b ≡ false
-  start-no e = start-number b ∙ rw (← is) (ne-eqb n 2 e)
-
   pub name-yes : n / 2 ≡ 1 → isNameByte b ≡ true
   name-yes e = name-number b ∙ rw (← is) (eq-eqb (n / 2) 1 e)
 
   pub name-no : (n / 2 ≡ 1 → ⊥) → isNameByte b ≡ false
   name-no e = name-number b ∙ rw (← is) (ne-eqb (n / 2) 1 e)
-
-  -- markup and other text have the classes from 4 on
-  pub not-lt : n < 4 → b ≡ code "<" → ⊥
-  unfolding bytes-compute classNumber
-  not-lt h e = let z : n ≡ 4 = is ∙ ap (λ (x : ℕ). classNumber (classOf x)) e in omega arith
-
-  pub not-amp : n < 4 → b ≡ code "&" → ⊥
-  unfolding bytes-compute classNumber
-  not-amp h e = let z : n ≡ 4 = is ∙ ap (λ (x : ℕ). classNumber (classOf x)) e in omega arith
-
-  pub not-bracket : n < 4 → b ≡ code "]" → ⊥
-  unfolding bytes-compute classNumber
-  not-bracket h e = let z : n ≡ 5 = is ∙ ap (λ (x : ℕ). classNumber (classOf x)) e in omega arith
-
-  pub not-greater : n < 4 → b ≡ code ">" → ⊥
-  unfolding bytes-compute classNumber
-  not-greater h e = let z : n ≡ 5 = is ∙ ap (λ (x : ℕ). classNumber (classOf x)) e in omega arith

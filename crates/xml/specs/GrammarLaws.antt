@@ -37,7 +37,7 @@ character-legal b e = at (classOf b) e
     at markup e = refl
     at plain e = e
 
-abbrev classBy : Bool → Bool → Bool → Bool → Bool → Class
+abbrev pub classBy : Bool → Bool → Bool → Bool → Bool → Class
 classBy w n d m p =
     elim w [
       | true ↦ white

@@ -53,3 +53,4 @@ pub mod NeatWritten
 pub mod NeatSpelled
 pub mod Canonical
 pub mod CanonicalLaws
+pub mod ByteTests

@@ -1,5 +1,5 @@
 // Comparing: the bytes of two parts, what two runs of text mean, and two parts of tapes as forests; and tests of one run.
-use crate::class::class;
+use crate::class::is_white_byte;
 use crate::tape::view_at;
 use crate::text::sign_at;
 use crate::writer::put_text;
@@ -122,7 +122,7 @@ pub fn is_white(src: &[u8], a: usize, e: usize) -> bool
 {
     let mut i = a;
     while i < e {
-        if class(src[i]) != 1 {
+        if !is_white_byte(src[i]) {
             return false;
         }
         i += 1;

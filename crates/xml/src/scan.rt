@@ -4,10 +4,13 @@ use crate::Next;
 use crate::Run;
 use crate::Start;
 use crate::class::class;
+use crate::class::is_name_byte;
+use crate::class::is_name_start;
 ghost use mathlib.Core.Path.{_≡_};
 ghost use Prim.Native.Nat.{ℕ, _+_, _<_, _≤_, max};
 ghost use lib.ListN.{length, drop, getD};
 ghost use lib.Seq.{slice};
+ghost use Rattle.xml.specs.ByteTests.{isPlain};
 ghost use Rattle.xml.specs.Bytes.{isTimes};
 ghost use Rattle.xml.specs.Read.{common, nameRest, nameLen, timesLen, entityAt, textByte, scan as scanned};
 ghost use Rattle.xml.specs.Tokens.{TimesRead, StartRead, EndRead, EndNamed};
@@ -25,7 +28,7 @@ fn name_rest(src: &[u8], at: usize) -> usize
 {
     let mut n = 0;
     while n < 31 && at + n < src.len() {
-        if class(src[at + n]) / 2 != 1 {
+        if !is_name_byte(src[at + n]) {
             return n;
         }
         n += 1;
@@ -41,7 +44,7 @@ pub fn name_len(src: &[u8], at: usize) -> usize
     if at == src.len() {
         return 0;
     }
-    if class(src[at]) != 2 {
+    if !is_name_start(src[at]) {
         return 0;
     }
     1 + name_rest(src, at + 1)
@@ -127,17 +130,38 @@ pub fn entity_at(src: &[u8], at: usize) -> Found
     Found::Miss(larger(lt, larger(gt, larger(amp, larger(quot, larger(apos, 0))))))
 }
 
-// What a byte of a text means, after q times `]`.
+// A byte after which a text goes on, whatever stands before it: a line feed, or 32 to 126 and none of `<`, `&`, `]`, `>`.
+fn is_plain(b: u8) -> bool
+    ensures { λ r. ⌜ r ≡ isPlain b ⌝ }
+{
+    if b < 32 {
+        return b == b'\n';
+    }
+    if 126 < b {
+        return false;
+    }
+    if b == b'<' {
+        return false;
+    }
+    if b == b'&' {
+        return false;
+    }
+    if b == b']' {
+        return false;
+    }
+    if b == b'>' {
+        return false;
+    }
+    true
+}
+
+// What a byte of a text means, after q times `]`; the table is asked of the bytes that neither are plain nor mean something here.
 fn text_byte(src: &[u8], at: usize, q: usize) -> Next
     requires { ⌜ (at < length (now src)) × (q ≤ at) ⌝ }
     ensures { λ r. ⌜ r ≡ textByte q (getD (now (src .entry)) at 0) (drop (at + 1) (now (src .entry))) ⌝ }
 {
     let b = src[at];
-    let k = class(b);
-    if k < 1 {
-        return Next::Off(0);
-    }
-    if k < 4 {
+    if is_plain(b) {
         return Next::On(0, 0);
     }
     if b == b'<' {
@@ -157,6 +181,9 @@ fn text_byte(src: &[u8], at: usize, q: usize) -> Next
             return Next::Off(0);
         }
         return Next::On(0, 0);
+    }
+    if class(b) < 1 {
+        return Next::Off(0);
     }
     Next::On(0, 0)
 }

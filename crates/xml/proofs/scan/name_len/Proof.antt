@@ -3,8 +3,8 @@ use mathlib.Core.Path.{sym, _∙_, ap}
 use Prim.Native.Nat.{ℕ, _+_}
 use native.Mathlib.Omega.{arith}
 use borrow.Author.Needs.{needs}
-use lib.ListN.{drop, getD, length-drop}
-use Rattle.xml.specs.ClassNumber.{start-yes, start-no}
+use borrow.Author.Tests.{not-true, not-false}
+use lib.ListN.{drop, length-drop}
 use Rattle.xml.specs.ScanLaws.{nameRest-fits, nameLen-end, nameLen-stop, nameLen-more}
 use Rattle.xml.proofs.scan.name_len.Statement.{statement}
 use Rattle.xml.proofs.scan.name_len.Tie as tie
@@ -15,18 +15,18 @@ returns c =
     let at = c .before .before .args .at in
     sym (nameLen-end src at (omega arith))
 
-shared-slice-read-class : tie.Need-shared-slice-read-class
-shared-slice-read-class c = search needs
+shared-slice-read-is-name-start : tie.Need-shared-slice-read-is-name-start
+shared-slice-read-is-name-start c = search needs
 
-class-requires : tie.Need-class-requires
-class-requires c κs = search needs
+is-name-start-requires : tie.Need-is-name-start-requires
+is-name-start-requires c κs = search needs
 
 returns-2 : tie.Need-returns-2
 returns-2 c =
     let src = c .before .before .before .before .before .args .src .now in
     let at = c .before .before .before .before .before .args .at in
-    let k = c .before .class in
-    sym (nameLen-stop src at (omega arith) (start-no (getD src at 0) (k .ensures) (c .if2 .taken)))
+    let k = c .before .is-name-start in
+    sym (nameLen-stop src at (omega arith) (sym (k .ensures) ∙ not-true (k .result) (c .if2 .taken)))
 
 add-name-rest : tie.Need-add-name-rest
 add-name-rest c = search needs
@@ -44,8 +44,8 @@ returns-3 : tie.Need-returns-3
 returns-3 c =
     let src = c .before .before .before .before .before .before .args .src .now in
     let at = c .before .before .before .before .before .before .args .at in
-    let k = c .before .before .class in
-    let more = nameLen-more src at (omega arith) (start-yes (getD src at 0) (k .ensures) (c .before .if2 .left)) in
+    let k = c .before .before .is-name-start in
+    let more = nameLen-more src at (omega arith) (sym (k .ensures) ∙ not-false (k .result) (c .before .if2 .left)) in
     ap (λ (x : ℕ). 1 + x) (c .name-rest .ensures) ∙ sym more
 
 pub name-len-spec : {M : Type 1} → statement M
@@ -53,8 +53,8 @@ name-len-spec =
     tie.close
     (tie.spec
     returns
-    shared-slice-read-class
-    class-requires
+    shared-slice-read-is-name-start
+    is-name-start-requires
     returns-2
     add-name-rest
     name-rest-requires

@@ -13,10 +13,14 @@ fail-requires : tie.Need-fail-requires
 fail-requires c κs = search needs
 
 returns : tie.Need-returns
-returns c = (dash-good _ _ _ _ (c .before .before .before .args .self .ok) (sym (c .before .may-open .ensures) ∙ c .if1 .taken), omega arith)
+returns c =
+    let x = c .before .before .args .self in
+    ((λ s. dash-good s (x .p) (x .lo) (x .n) (x .ok) (sym (c .before .may-open .ensures) ∙ c .if1 .taken)), omega arith)
 
 returns-2 : tie.Need-returns-2
-returns-2 c = (c .fail .ensures .0 ∙ dash-bad _ _ _ _ (c .before .before .before .before .args .self .ok) (sym (c .before .before .may-open .ensures) ∙ c .before .if1 .left), c .fail .ensures .1)
+returns-2 c =
+    let x = c .before .before .before .args .self in
+    ((λ s. c .fail .ensures .0 s ∙ dash-bad s (x .p) (x .lo) (x .n) (x .ok) (sym (c .before .before .may-open .ensures) ∙ c .before .if1 .left)), c .fail .ensures .1)
 
 pub dash-spec : {M : Type 1} → statement M
 dash-spec = tie.close (tie.spec may-open-requires fail-requires returns returns-2)

@@ -1,0 +1,3 @@
+-- The definitions that the command's contracts cite.
+pub mod Asked
+pub mod Number
