@@ -1,8 +1,9 @@
 # make demo          proves, builds and runs document 01's demonstration: three lines, the archive after each version
 # make station       proves and builds the command for the watchroom, which bin/station runs
 # make station-test  runs every order of the command on document 01's record, wrong words too
-# make test          the gate: everything proved from nothing, must-fail edits, programs
-.PHONY: demo station station-test test
+# make edits         tries the wrong programs of tests/edits, besides those of the gate
+# make test          the gate: tests over the static library, everything proved from nothing, must-fail edits, programs
+.PHONY: demo station station-test edits test
 
 demo:
 	rt check demo
@@ -13,6 +14,9 @@ station:
 
 station-test: station
 	tests/station/run
+
+edits:
+	tests/edits/run
 
 test:
 	.ci/run
