@@ -11,8 +11,8 @@
  * The caller owes what C cannot check: each pointer is to as many bytes as the length beside it says, and
  * neither out nor *length overlaps anything else that the call is lent. The texts are only read.
  * The calls keep no state and allocate nothing, and of C's library use memcpy and memset alone. Their work cells
- * (64 KiB) are on the caller's stack, of which a call takes some 96 KB at most (measured, not proved: 86,463 bytes in
- * tests/bench; trials with the deepest texts, legal and not, took 88,264 before a table of 4,000 bytes was added).
+ * (64 KiB) are on the caller's stack, of which a call takes some 96 KB at most (measured, not proved: 86,719 bytes in
+ * tests/bench, 91,544 with key levels and elements as deep as they may be).
  */
 #ifndef STATION_ARCHIVE_H
 #define STATION_ARCHIVE_H

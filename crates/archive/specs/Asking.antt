@@ -1,21 +1,23 @@
 -- The calls that ask for one of an archive's versions by its number: their steps, the archive on the tape, and a law for each answer.
 use Prim.Native.Nat.{ℕ, _<_, _≤_}
-use mathlib.Core.Path.{_≡_, refl, sym, subst}
+use native.Mathlib.Omega.{arith}
+use mathlib.Core.Path.{_≡_, refl, sym, ap, subst}
 use mathlib.Core.Bool.{true, false, not, _&&_}
 use mathlib.Core.List.{List}
 use lib.Dec.{leb}
 use lib.ListN.{length}
 use borrow.Author.Tests.{le-leb, lt-leb}
 use Rattle.xml.specs.Bytes.{Bytes}
-use Rattle.xml.specs.Forest.{Forest}
+use Rattle.xml.specs.Forest.{Forest, write}
 use Rattle.xml.specs.Tape.{Tape}
+use Rattle.xml.specs.TapeLaws.{tape-one}
 use Rattle.keys.specs.Result.{Result, numberOf, _>>=_, _>>_, refuse, r11}
 use Rattle.keys.specs.KeyList.{KeyList, keyList}
 use Rattle.keys.specs.Table.{Table}
 use Rattle.keys.specs.Loading.{Tabled}
 use Rattle.versions.specs.Archive.{lastVersion}
 use Rattle.versions.specs.Calls.{atMost, give}
-use Rattle.versions.specs.Walk.{archiveRead}
+use Rattle.versions.specs.Walk.{forestLegal, archiveRead}
 use Rattle.versions.specs.AllTimed.{legal-last}
 use Rattle.legality.specs.Opened.{ArchiveOn}
 use Rattle.archive.specs.Giving.{Gives, step-ok, test-refused, test-passed}
@@ -44,6 +46,20 @@ askedIn w keys s i out = do
 pub record Lies (src cells : List ℕ) (hi n : ℕ) : Type 0 where
   pub keys : KeyList
   pub archive : ArchiveOn keys src cells hi n
+
+-- an archive that has the versions to i lies on the tape
+pub record Reaches (src cells : List ℕ) (hi i : ℕ) : Type 0 where
+  pub count : ℕ
+  pub lies : Lies src cells hi count
+  pub reach : i ≤ count
+
+-- what is no longer than a legal archive, written, is no longer than the archive's text
+pub reaches-short : {src cells : List ℕ} {hi i : ℕ} (w : Forest → Bytes) → ((K : KeyList) (f : Forest) → forestLegal K f ≡ true → i ≤ lastVersion f → length (w f) ≤ length (write f))
+    → Reaches src cells hi i → (f : Forest) → Tape src cells 0 hi f → length (w f) ≤ length src
+reaches-short {src} {i = i} w s x f t =
+    let a = x .lies .archive in
+    let l : i ≤ lastVersion (a .forest) = omega (arith, a .last, x .reach) in
+    rw (tape-one t (a .tape)) (omega (arith, s (x .lies .keys) (a .forest) (a .legal) l, ap length (a .spelled)))
 
 -- so it is where an archive was opened
 pub opened-lies : {keyText : Bytes} {table : List ℕ} {paths : ℕ} {src cells : List ℕ} {hi n : ℕ} → Tabled keyText table paths

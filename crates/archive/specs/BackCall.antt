@@ -1,17 +1,19 @@
--- The call that steps back to a version, by its steps; and what its walk asks of the archive on the tape.
+-- The call that steps back to a version, by its steps; what its walk asks of the archive on the tape, and how long what it writes can be.
 use Prim.Native.Nat.{ℕ, _+_, _*_, _%_, _^_, _<_, _≤_}
 use native.Mathlib.Omega.{arith}
 use mathlib.Core.Path.{_≡_, sym, subst}
 use mathlib.Core.List.{List}
+use lib.ListN.{length}
 use Rattle.xml.specs.Bytes.{Bytes}
 use Rattle.xml.specs.Forest.{Forest, write}
-use Rattle.xml.specs.Tape.{headAt, nextAt}
+use Rattle.xml.specs.Tape.{headAt, nextAt, Tape}
 use Rattle.keys.specs.Result.{_>>_}
 use Rattle.versions.specs.Calls.{answer, room, stepBack}
 use Rattle.versions.specs.Walk.{backForest, stepBackOn}
 use Rattle.versions.specs.WalkLaws.{stepsBack}
+use Rattle.versions.specs.BackLength.{back-shorter}
 use Rattle.versions.specs.Timely.{Timely, legal-timely, legal-outer}
-use Rattle.archive.specs.Asking.{askedIn, Lies}
+use Rattle.archive.specs.Asking.{askedIn, Reaches, reaches-short}
 
 -- the archive of the first i versions of an archive's forest, written
 abbrev pub earlierText : ℕ → Forest → Bytes
@@ -23,9 +25,14 @@ unfolding stepBackOn
 back-steps keys s i out work = sym (stepsBack keys s i out work)
 
 -- what the walk requires, for a version that is there
-pub back-asks : {src cells : List ℕ} {hi n i : ℕ} → Lies src cells hi n → i ≤ n
+pub back-asks : {src cells : List ℕ} {hi i : ℕ} → Reaches src cells hi i
     → (0 < hi) × (nextAt cells 0 ≡ hi) × (headAt cells 0 % 4 ≡ 2) × Timely i src cells 0 hi × (0 + 163840 * hi < 2 ^ 60)
-back-asks {i = i} x l =
-    let a = x .archive in
-    let o = legal-outer (x .keys) (a .legal) (a .tape) in
-    (o .0, o .1, o .2, legal-timely (x .keys) (a .legal) (a .tape) (subst (λ k. i ≤ k) (sym (a .last)) l), omega (arith, a .few))
+back-asks {i = i} x =
+    let a = x .lies .archive in
+    let K = x .lies .keys in
+    let o = legal-outer K (a .legal) (a .tape) in
+    (o .0, o .1, o .2, legal-timely K (a .legal) (a .tape) (subst (λ k. i ≤ k) (sym (a .last)) (x .reach)), omega (arith, a .few))
+
+-- what it writes is no longer than the archive's text
+pub back-short : {src cells : List ℕ} {hi i : ℕ} → Reaches src cells hi i → (f : Forest) → Tape src cells 0 hi f → length (earlierText i f) ≤ length src
+back-short {i = i} x f t = reaches-short (earlierText i) (back-shorter i) x f t

@@ -1,11 +1,13 @@
 -- The call that founds an archive: its steps, and what they ask and say.
 use Prim.Native.Nat.{ℕ, _≤_}
+use native.Mathlib.Omega.{arith}
 use mathlib.Core.Path.{_≡_, refl}
 use mathlib.Core.List.{List, [], _∷_}
 use lib.ListN.{length}
 use Rattle.xml.specs.Bytes.{Bytes}
 use Rattle.xml.specs.Forest.{Forest, write}
 use Rattle.xml.specs.Tape.{Tape}
+use Rattle.xml.specs.TapeLaws.{tape-one}
 use Rattle.keys.specs.Result.{Result, ok, _>>=_, _>>_}
 use Rattle.keys.specs.KeyList.{KeyList, keyList}
 use Rattle.keys.specs.Version.{version}
@@ -14,7 +16,7 @@ use Rattle.keys.specs.Loading.{Tabled}
 use Rattle.versions.specs.Archive.{archiveOf}
 use Rattle.versions.specs.Calls.{answer, room, atMost, storable, give, found}
 use Rattle.archive.specs.Reception.{Version}
-use Rattle.archive.specs.Founding.{firstText, founded-text, founded-storable, short}
+use Rattle.archive.specs.Founding.{firstText, first-length, founded-text, founded-storable, short}
 use Rattle.archive.specs.Giving.{Gives, gives-same}
 
 -- the last steps of the call, and all but its first
@@ -47,6 +49,10 @@ pub first-on : {keyText : Bytes} {table : List ℕ} {n : ℕ} {src left : List �
 first-on {src = src} t x =
     let w = x (t .keys) (t .table) in
     record { forest = w .forest; tape = w .tape; few = w .few; small = short (t .keys) src (w .forest) (w .is) }
+
+-- its archive has at most 16,397 bytes
+pub first-short : {src cells : List ℕ} {m : ℕ} → FirstOn src cells m → (f : Forest) → Tape src cells 0 m f → length (firstText (write f)) ≤ 16397
+first-short x f t = rw (tape-one t (x .tape)) (omega (arith, first-length (write (x .forest)), x .small))
 
 found-version : (K : KeyList) (s : Bytes) (v : Forest) (out : ℕ) → version K s ≡ ok v → foundOf K s out ≡ give out (firstText (write v))
 found-version K s v out e = rw (e, founded-storable K s v e, founded-text K s v e)

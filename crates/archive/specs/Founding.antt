@@ -31,6 +31,10 @@ one-text = refl
 abbrev pub firstText : Bytes → Bytes
 firstText w = bytes "<T t=\"1\">" ++ w ++ bytes "</T>"
 
+pub first-length : (w : Bytes) → length (firstText w) ≡ length w + 13
+unfolding bytes
+first-length w = length-append (bytes "<T t=\"1\">" ++ w) (bytes "</T>") ∙ omega (arith, length-append (bytes "<T t=\"1\">") w)
+
 module _ (K : KeyList) (s : Bytes) (v : Forest) (e : version K s ≡ ok v) where
   founded : archiveOf K (v ∷ []) ≡ stamp (bytes "1") v end
   unfolding archiveOf archive archiveForest gather always onlyAfter
@@ -53,12 +57,8 @@ module _ (K : KeyList) (s : Bytes) (v : Forest) (e : version K s ≡ ok v) where
   unfolding nodes
   founded-small = rw founded (omega (arith, few))
 
-  first-length : length (firstText (write v)) ≡ length (write v) + 13
-  unfolding bytes
-  first-length = length-append (bytes "<T t=\"1\">" ++ write v) (bytes "</T>") ∙ omega (arith, length-append (bytes "<T t=\"1\">") (write v))
-
   founded-short : length (write (archiveOf K (v ∷ []))) ≤ 32768
-  founded-short = rw founded-text (omega (arith, first-length, short))
+  founded-short = rw founded-text (omega (arith, first-length (write v), short))
 
   pub founded-storable : storable (archiveOf K (v ∷ [])) ≡ ok tt
   unfolding storable

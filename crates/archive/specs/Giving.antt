@@ -4,12 +4,13 @@ use native.Mathlib.Omega.{arith}
 use mathlib.Core.Path.{_≡_, refl, sym, _∙_, ap, subst}
 use mathlib.Core.Bool.{Bool, true, false}
 use mathlib.Core.List.{List, [], _∷_, _++_}
-use lib.Dec.{eqb}
+use lib.Dec.{eqb, ltb}
 use lib.ListN.{length, drop, replicate}
 use lib.Seq.{take-all}
-use borrow.Author.Tests.{lt-ltb, le-ltb}
+use borrow.Author.Tests.{lt-ltb, le-ltb, ltb-true, ltb-false}
 use Rattle.xml.specs.Bytes.{Bytes}
-use Rattle.xml.specs.Over.{over}
+use Rattle.xml.specs.Over.{over, Wrote}
+use Rattle.xml.specs.OverLaws.{wrote-over}
 use Rattle.keys.specs.Result.{Refusal, Result, numberOf, refused, ok, _>>=_, _>>_, refuse, r1, r2, r3, r4, r14}
 use Rattle.keys.specs.KeyList.{KeyList, keyList}
 use Rattle.keys.specs.Version.{version}
@@ -87,6 +88,16 @@ module _ (s : Bytes) (out : List ℕ) {count : ℕ} (h : count ≡ length s) whe
   pub give-done : {left : List ℕ} → count ≤ length out → left ≡ over out s → Gives (give (length out) s) 0 count out left
   unfolding give
   give-done l o = test-passed (ok s) r14 (le-ltb (length out) (length s) (omega arith)) (gives-ok s refl h l o)
+
+-- by whether the output lacks room for it
+module _ (s : Bytes) (out : List ℕ) {lacks : Bool} (h : lacks ≡ ltb (length out) (length s)) where
+  pub give-lacks : lacks ≡ true → Gives (give (length out) s) 14 0 out out
+  give-lacks e = give-short s out refl (ltb-true (length out) (length s) (sym h ∙ e))
+
+  pub give-fits : {count : ℕ} {left : List ℕ} → lacks ≡ false → Wrote out 0 s count left → Gives (give (length out) s) 0 count out left
+  give-fits e w =
+      let x = wrote-over w in
+      give-done s out (x .0) (omega (arith, x .0, ltb-false (length out) (length s) (sym h ∙ e))) (x .1)
 
 -- ---- the call
 -- number, length, output and work cells at a call's exit are those of the answer a

@@ -7,6 +7,8 @@ use legality::open::Opened;
 use legality::open::open;
 use walks::back::back;
 ghost use Prim.Native.Nat.{_≤_};
+ghost use mathlib.Core.Path.{_≡_};
+ghost use lib.Dec.{ltb};
 ghost use lib.ListN.{length};
 ghost use Rattle.xml.specs.Forest.{Forest};
 ghost use Rattle.xml.specs.Tape.{Tape};
@@ -16,7 +18,20 @@ ghost use Rattle.keys.specs.Loading.{Tabled};
 ghost use Rattle.versions.specs.Calls.{stepBack};
 ghost use Rattle.archive.specs.Giving.{Gives, Ends};
 ghost use Rattle.archive.specs.BackCall.{earlierText};
-ghost use Rattle.archive.specs.Asking.{Lies, asked, askedOf, askedIn};
+ghost use Rattle.archive.specs.Asking.{Lies, Reaches, asked, askedOf, askedIn};
+
+// Whether the archive of the first i versions of the one on the tape has more than `size` bytes: it never has more than that one.
+fn lacks_room(src: &[u8], tape: &[u32], hi: usize, i: usize, size: usize) -> bool
+    requires { ⌜ Reaches (now src) (now tape) hi i ⌝ }
+    ensures { λ r. ⌜ ((f : Forest) → Tape (now (src .entry)) (now (tape .entry)) 0 hi f → r ≡ ltb size (length (earlierText i f))) ⌝ }
+{
+    if src.len() <= size {
+        return false;
+    }
+    let mut none = [0u8; 0];
+    let count = back(src, tape, hi, i, &mut none, 0);
+    size < count
+}
 
 // Gives the archive of the first i of the n versions whose archive lies on the tape, if there are so many and it fits.
 fn give_earlier(src: &[u8], tape: &[u32], hi: usize, n: usize, i: usize, out: &mut [u8]) -> Answer
@@ -36,15 +51,13 @@ fn give_earlier(src: &[u8], tape: &[u32], hi: usize, n: usize, i: usize, out: &m
             length: 0,
         };
     }
-    let mut none = [0u8; 0];
-    let count = back(src, tape, hi, i, &mut none, 0);
-    if out.len() < count {
+    if lacks_room(src, tape, hi, i, out.len()) {
         return Answer {
             number: 14,
             length: 0,
         };
     }
-    back(src, tape, hi, i, out, 0);
+    let count = back(src, tape, hi, i, out, 0);
     Answer {
         number: 0,
         length: count,

@@ -8,6 +8,8 @@ use keys::load::load;
 use xml::writer::put_word;
 use xml::writer::write_at;
 ghost use Prim.Native.Nat.{_≤_};
+ghost use mathlib.Core.Path.{_≡_};
+ghost use lib.Dec.{ltb};
 ghost use lib.ListN.{length};
 ghost use Rattle.xml.specs.Forest.{Forest, write as written};
 ghost use Rattle.xml.specs.Over.{Wrote};
@@ -31,21 +33,32 @@ fn write_first(src: &[u8], tape: &[u32], m: usize, out: &mut [u8]) -> usize
     put_word(b"</T>", out, close)
 }
 
+// Whether the archive of the version that lies on the tape has more than `size` bytes: a version has at most 16,384, its `T` 13 more.
+fn lacks_room(src: &[u8], tape: &[u32], m: usize, size: usize) -> bool
+    requires { ⌜ FirstOn (now src) (now tape) m ⌝ }
+    ensures { λ r. ⌜ ((f : Forest) → Tape (now (src .entry)) (now (tape .entry)) 0 m f → r ≡ ltb size (length (firstText (written f)))) ⌝ }
+{
+    if 16397 <= size {
+        return false;
+    }
+    let mut none = [0u8; 0];
+    let count = write_first(src, tape, m, &mut none);
+    size < count
+}
+
 // Gives the archive of the version that lies on the tape, if it fits.
 fn give_first(src: &[u8], tape: &[u32], m: usize, out: &mut [u8]) -> Answer
     requires { ⌜ FirstOn (now src) (now tape) m ⌝ }
     ensures { λ r. ⌜ ((f : Forest) → Tape (now (src .entry)) (now (tape .entry)) 0 m f
         → Gives (give (length (now (out .entry))) (firstText (written f))) (r .number) (r .length) (now (out .entry)) (now (out .exit))) ⌝ }
 {
-    let mut none = [0u8; 0];
-    let count = write_first(src, tape, m, &mut none);
-    if out.len() < count {
+    if lacks_room(src, tape, m, out.len()) {
         return Answer {
             number: 14,
             length: 0,
         };
     }
-    write_first(src, tape, m, out);
+    let count = write_first(src, tape, m, out);
     Answer {
         number: 0,
         length: count,

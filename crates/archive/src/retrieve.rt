@@ -7,6 +7,8 @@ use legality::open::Opened;
 use legality::open::open;
 use walks::retrieve::write_version;
 ghost use Prim.Native.Nat.{_≤_};
+ghost use mathlib.Core.Path.{_≡_};
+ghost use lib.Dec.{ltb};
 ghost use lib.ListN.{length};
 ghost use Rattle.xml.specs.Forest.{Forest};
 ghost use Rattle.xml.specs.Tape.{Tape};
@@ -16,7 +18,20 @@ ghost use Rattle.keys.specs.Loading.{Tabled};
 ghost use Rattle.versions.specs.Calls.{retrieve as retrieved};
 ghost use Rattle.archive.specs.Giving.{Gives, Ends};
 ghost use Rattle.versions.specs.VersionText.{versionText};
-ghost use Rattle.archive.specs.Asking.{Lies, asked, askedOf, askedIn};
+ghost use Rattle.archive.specs.Asking.{Lies, Reaches, asked, askedOf, askedIn};
+
+// Whether version i of the archive on the tape has more than `size` bytes: it never has more than the archive.
+fn lacks_room(src: &[u8], tape: &[u32], hi: usize, i: usize, size: usize) -> bool
+    requires { ⌜ Reaches (now src) (now tape) hi i ⌝ }
+    ensures { λ r. ⌜ ((f : Forest) → Tape (now (src .entry)) (now (tape .entry)) 0 hi f → r ≡ ltb size (length (versionText i f))) ⌝ }
+{
+    if src.len() <= size {
+        return false;
+    }
+    let mut none = [0u8; 0];
+    let count = write_version(src, tape, 0, hi, i, &mut none, 0);
+    size < count
+}
 
 // Gives version i of the archive of n versions that lies on the tape, if there is one and it fits.
 fn give_version(src: &[u8], tape: &[u32], hi: usize, n: usize, i: usize, out: &mut [u8]) -> Answer
@@ -36,15 +51,13 @@ fn give_version(src: &[u8], tape: &[u32], hi: usize, n: usize, i: usize, out: &m
             length: 0,
         };
     }
-    let mut none = [0u8; 0];
-    let count = write_version(src, tape, 0, hi, i, &mut none, 0);
-    if out.len() < count {
+    if lacks_room(src, tape, hi, i, out.len()) {
         return Answer {
             number: 14,
             length: 0,
         };
     }
-    write_version(src, tape, 0, hi, i, out, 0);
+    let count = write_version(src, tape, 0, hi, i, out, 0);
     Answer {
         number: 0,
         length: count,

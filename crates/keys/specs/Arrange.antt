@@ -23,6 +23,8 @@ use Rattle.keys.specs.Table.{Table}
 use Rattle.keys.specs.PlaceLaws.{place-root}
 use Rattle.keys.specs.Checked.{Checked}
 use Rattle.keys.specs.Doubles.{DoubledIn}
+use Rattle.keys.specs.Entries.{Few}
+use Rattle.keys.specs.Arranged.{few-tags}
 use Rattle.keys.specs.Building.{ContentFit, ContentBuilt}
 use Rattle.keys.specs.declared.arrange.Arranged.{Arranged}
 use Rattle.keys.specs.declared.arrange.Arranged.the-variants.{Done, Double}
@@ -90,6 +92,10 @@ module _ {keyText : Bytes} {table : List ℕ} {n : ℕ} {src cells : List ℕ} {
   pub version-checked : Checked keyText table n 128 src cells 0 count
   version-checked =
       record { keyList = g .keyList; path = []; tabled = g .tabled; place-is = place-root (g .keyList); forest = g .forest; tape = g .tape; keyed = raw-keyed }
+
+  pub version-few : Few src cells 0 count
+  version-few f h =
+      rw (tape-one h (g .tape)) (omega (arith, few-tags (g .keyList) [] (g .forest), size-nodes (g .keyList) [] v (g .placed), few-nodes))
 
   pub version-fits : DoubledIn keyText table n 128 src cells 0 count false → ContentFit keyText table n 128 src cells 0 count 0
   version-fits d =

@@ -12,7 +12,7 @@ use Rattle.xml.specs.Truth.{bool-by, and-false}
 use Rattle.keys.specs.KeyList.{Path, KeyList, above}
 use Rattle.keys.specs.Version.{_▸_, Label, label, sameLabel, before, find, isSome, doubled, insertBy, ordered}
 use Rattle.keys.specs.Tree.{Content, keyed}
-use Rattle.keys.specs.ChoiceLaws.{before-turn}
+use Rattle.keys.specs.SiblingLaws.{before-turn}
 use Rattle.keys.specs.Sorting.{ordered-elem}
 use Rattle.keys.specs.TreeParts.{kidsOf, keyed-elem, three-false}
 

@@ -3,10 +3,10 @@ use Prim.Native.Nat.{ℕ, _+_, _*_, _<_, _≤_}
 use native.Mathlib.Omega.{arith}
 use mathlib.Core.Path.{_≡_, refl, sym, _∙_, ap}
 use mathlib.Core.Bool.{true, false}
-use mathlib.Core.Option.{Option, none, some}
 use mathlib.Core.List.{List}
 use lib.ListN.{length, getD}
 use Rattle.xml.specs.Bytes.{Bytes}
+use Rattle.xml.specs.Truth.{clash, or-left}
 use Rattle.xml.specs.Forest.{Forest, end, elem, join}
 use Rattle.xml.specs.Complete.{join-end, join-assoc}
 use Rattle.xml.specs.Held.{size-join}
@@ -14,15 +14,14 @@ use Rattle.xml.specs.Tape.{nextAt, Node, Tape, at-end, size}
 use Rattle.xml.specs.TapeLaws.{tape-le, tape-size, tape-join, tape-one, tape-same}
 use Rattle.keys.specs.KeyList.{Path, KeyList, above}
 use Rattle.keys.specs.KeyListLaws.{rules-kept}
-use Rattle.keys.specs.Version.{_▸_, Label, label, dropWhite, misplaced, unkeyed, doubled}
+use Rattle.keys.specs.Version.{_▸_, dropWhite, misplaced, unkeyed, doubled}
 use Rattle.keys.specs.Table.{placeOf, Table}
 use Rattle.keys.specs.Placed.{OfPlace}
-use Rattle.keys.specs.Labelled.{Labelled}
 use Rattle.keys.specs.Checked.{at-place, Checked}
-use Rattle.keys.specs.Choice.{Choice, nobody, chosen, labelOf, leastAbove, Chose}
-use Rattle.keys.specs.Arranged.{arranged, Sound, upper}
-use Rattle.keys.specs.Least.{Kid, least-kid, all-upper, Next, least-next}
-use Rattle.keys.specs.Picked.{Picked, no-one, one}
+use Rattle.keys.specs.Siblings.{Each, eachWith, twins, doubledKids, elements}
+use Rattle.keys.specs.SiblingLaws.{doubled-parts}
+use Rattle.keys.specs.Entries.{Entry, Lists, no-more, one-more, Few, Sorted, lists-le, lists-none}
+use Rattle.keys.specs.Arranged.{arranged, eachArranged, Kid, arranged-tags, order-kids, arranged-order}
 
 -- the nodes lo to hi are children of an element at the place, have passed 7, 8 and 9, and fit from node m on
 pub record ContentFit (keyText : Bytes) (table : List ℕ) (n place : ℕ) (src cells : List ℕ) (lo hi m : ℕ) : Type 0 where
@@ -69,67 +68,61 @@ size-next : (d : Forest) (n : Bytes) (k r : Forest) → size (join d (elem n k r
 unfolding size
 size-next d n k r = size-join d (elem n k r)
 
--- ---- siblings: those built, the one chosen next, and those still to come
-pub record Progress (keyText : Bytes) (table : List ℕ) (n place : ℕ) (src cells : List ℕ) (lo hi : ℕ) (out : List ℕ) (m p to : ℕ) (now : List ℕ) : Type 0 where
+-- ---- siblings: those built, and those of the entries j to k still to come
+pub record Progress (keyText : Bytes) (table : List ℕ) (n place : ℕ) (src cells : List ℕ) (lo hi : ℕ) (out : List ℕ) (m : ℕ) (order : List ℕ) (j k to : ℕ) (now : List ℕ) : Type 0 where
   pub keyList : KeyList
   pub path : Path
   pub tabled : Table keyText table n keyList
   pub place-is : placeOf keyList path ≡ place
+  pub high : above keyList path ≡ true
   pub forest : Forest
   pub tape : Tape src cells lo hi forest
-  pub sound : Sound keyList path forest
   pub fits : m + size (arranged keyList path forest) ≤ 512
   pub done : Forest
-  pub label-above : Option Label
+  pub rest : Forest
   pub built : Tape src now m to done
-  pub whole : arranged keyList path forest ≡ join done (upper keyList path label-above (arranged keyList path forest))
-  pub next : Picked src cells lo hi p (leastAbove keyList path label-above forest)
+  pub lists : Lists src cells lo hi order j k rest
+  pub kids : Each (Kid keyList path) rest
+  pub whole : arranged keyList path forest ≡ join done (eachArranged keyList path rest)
   pub kept : Below out m now
   pub long : length now ≡ length out
 
--- the element chosen
-pub record Turn (keyList : KeyList) (path : Path) (src cells : List ℕ) (lo hi : ℕ) (forest done : Forest) (p m to : ℕ) : Type 0 where
+-- the next element, and those after it
+pub record Turn (keyList : KeyList) (path : Path) (src cells : List ℕ) (lo hi : ℕ) (order : List ℕ) (j k : ℕ) (forest done : Forest) (to : ℕ) : Type 0 where
   pub name : Bytes
   pub kids : Forest
-  pub low : lo ≤ p
-  pub inside : nextAt cells p ≤ hi
-  pub node : Node src cells p 1 name
-  pub inner : Tape src cells (p + 1) (nextAt cells p) kids
+  pub rest : Forest
+  pub entry : Entry src cells lo hi (getD order j 0) name kids
+  pub lists : Lists src cells lo hi order (j + 1) k rest
   pub kid : Kid keyList path name kids
-  pub whole : arranged keyList path forest ≡ join done (elem name (arranged keyList (path ▸ name) kids) (upper keyList path (some (label keyList path name kids)) (arranged keyList path forest)))
+  pub others : Each (Kid keyList path) rest
+  pub whole : arranged keyList path forest ≡ join done (elem name (arranged keyList (path ▸ name) kids) (eachArranged keyList path rest))
   pub room : to + 1 + size (arranged keyList (path ▸ name) kids) ≤ 512
 
-module _ {keyText : Bytes} {table : List ℕ} {n place : ℕ} {src cells : List ℕ} {lo hi : ℕ} {out : List ℕ} {m p to : ℕ} {now : List ℕ}
-    (x : Progress keyText table n place src cells lo hi out m p to now) where
-  pub turn : p < hi → Turn (x .keyList) (x .path) src cells lo hi (x .forest) (x .done) p m to
-  turn l =
-      go (leastAbove (x .keyList) (x .path) (x .label-above) (x .forest)) (x .next) (least-kid (x .keyList) (x .path) (x .forest) (x .sound) (x .label-above))
-      (least-next (x .keyList) (x .path) (x .forest) (x .sound) (x .label-above))
+module _ {keyText : Bytes} {table : List ℕ} {n place : ℕ} {src cells : List ℕ} {lo hi : ℕ} {out : List ℕ} {m : ℕ} {order : List ℕ} {j k to : ℕ} {now : List ℕ}
+    (x : Progress keyText table n place src cells lo hi out m order j k to now) where
+  pub turn : j < k → Turn (x .keyList) (x .path) src cells lo hi order j k (x .forest) (x .done) to
+  turn l = go (x .lists) (x .kids) (x .whole)
     where
-      go : (o : Choice) → Picked src cells lo hi p o → Chose (Kid (x .keyList) (x .path)) o → Next (x .keyList) (x .path) (x .forest) (x .sound) (x .label-above) o
-          → Turn (x .keyList) (x .path) src cells lo hi (x .forest) (x .done) p m to
-      go nobody (no-one e) c w = absurd (omega arith)
-      go (chosen b k) (one g h i a t) c w =
-          let z = x .whole ∙ ap (join (x .done)) w in
+      go : {r : Forest} → Lists src cells lo hi order j k r → Each (Kid (x .keyList) (x .path)) r → arranged (x .keyList) (x .path) (x .forest) ≡ join (x .done) (eachArranged (x .keyList) (x .path) r)
+          → Turn (x .keyList) (x .path) src cells lo hi order j k (x .forest) (x .done) to
+      go (no-more e) h w = absurd (omega arith)
+      go (one-more {n = b} {k = f} {r = r} e t) h w =
+          let z : arranged (x .keyList) (x .path) (x .forest) ≡ join (x .done) (elem b (arranged (x .keyList) (x .path ▸ b) f) (eachArranged (x .keyList) (x .path) r)) = unfold eachWith in w in
           record {
             name = b;
-            kids = k;
-            low = g;
-            inside = i;
-            node = a;
-            inner = t;
-            kid = c;
+            kids = f;
+            rest = r;
+            entry = e;
+            lists = t;
+            kid = h .0;
+            others = h .1;
             whole = z;
-            room = omega (arith, tape-size (x .built), x .fits, ap size z ∙ size-next (x .done) b (arranged (x .keyList) (x .path ▸ b) k) (upper (x .keyList) (x .path) (some (label (x .keyList) (x .path) b k)) (arranged (x .keyList) (x .path) (x .forest))));
+            room = omega (arith, tape-size (x .built), x .fits, ap size z ∙ size-next (x .done) b (arranged (x .keyList) (x .path ▸ b) f) (eachArranged (x .keyList) (x .path) r));
           }
 
-  module _ (l : p < hi) where
-    pub turn-labelled : Labelled keyText table n place src cells p
-    turn-labelled =
-        let y = turn l in
-        record { keyList = x .keyList; path = x .path; tabled = x .tabled; place-is = x .place-is; name = y .name; kids = y .kids; node = y .node; tape = y .inner; once = y .kid .once }
-
-    pub turn-fit : ElementFit keyText table n place src cells p to
+  module _ (l : j < k) where
+    pub turn-fit : ElementFit keyText table n place src cells (getD order j 0) to
     turn-fit =
         let y = turn l in
         record {
@@ -137,55 +130,52 @@ module _ {keyText : Bytes} {table : List ℕ} {n place : ℕ} {src cells : List 
           path = x .path;
           tabled = x .tabled;
           place-is = x .place-is;
-          high = x .sound .high;
+          high = x .high;
           name = y .name;
           kids = y .kids;
-          node = y .node;
-          tape = y .inner;
+          node = y .entry .node;
+          tape = y .entry .inner;
           kid = y .kid;
           fits = y .room;
         }
 
-    -- one more is built, and the next is chosen
-    pub progress-more : {p′ to′ : ℕ} {left : List ℕ} → ElementBuilt keyText table n place src cells p now to to′ left → length left ≡ length now
-        → OfPlace keyText table n place (λ K q. (f : Forest) (o : Choice) → Tape src cells lo hi f → Picked src cells lo hi p o → Picked src cells lo hi p′ (leastAbove K q (labelOf K q o) f))
-        → 2 * to ≤ length left → Progress keyText table n place src cells lo hi out m p′ to′ left
-    progress-more {left = left} b e a r =
+    -- one more is built
+    pub progress-more : {to′ : ℕ} {left : List ℕ} → ElementBuilt keyText table n place src cells (getD order j 0) now to to′ left → length left ≡ length now
+        → 2 * to ≤ length left → Progress keyText table n place src cells lo hi out m order (j + 1) k to′ left
+    progress-more {left = left} b e r =
         let y = turn l in
-        let k = arranged (x .keyList) (x .path ▸ y .name) (y .kids) in
-        let rest = upper (x .keyList) (x .path) (some (label (x .keyList) (x .path) (y .name) (y .kids))) (arranged (x .keyList) (x .path) (x .forest)) in
+        let f = arranged (x .keyList) (x .path ▸ y .name) (y .kids) in
         record {
           keyList = x .keyList;
           path = x .path;
           tabled = x .tabled;
           place-is = x .place-is;
+          high = x .high;
           forest = x .forest;
           tape = x .tape;
-          sound = x .sound;
           fits = x .fits;
-          done = join (x .done) (elem (y .name) k end);
-          label-above = some (label (x .keyList) (x .path) (y .name) (y .kids));
-          built = tape-join (tape-same left (record { room = r; same = λ i g h. b .kept i h }) (x .built)) (b .tape (x .keyList) (x .path) (x .tabled) (x .place-is) (y .name) (y .kids) (y .node) (y .inner));
-          whole = y .whole ∙ unfold join in sym (join-assoc (x .done) (elem (y .name) k end) rest);
-          next = a (x .keyList) (x .path) (x .tabled) (x .place-is) (x .forest) (chosen (y .name) (y .kids)) (x .tape) (one (y .low) l (y .inside) (y .node) (y .inner));
+          done = join (x .done) (elem (y .name) f end);
+          rest = y .rest;
+          built = tape-join (tape-same left (record { room = r; same = λ i g h. b .kept i h }) (x .built))
+              (b .tape (x .keyList) (x .path) (x .tabled) (x .place-is) (y .name) (y .kids) (y .entry .node) (y .entry .inner));
+          lists = y .lists;
+          kids = y .others;
+          whole = y .whole ∙ unfold join in sym (join-assoc (x .done) (elem (y .name) f end) (eachArranged (x .keyList) (x .path) (y .rest)));
           kept = λ i h. b .kept i (omega (arith, tape-le (x .built))) ∙ x .kept i h;
           long = e ∙ x .long;
         }
 
   -- none is left
-  progress-all : hi ≤ p → arranged (x .keyList) (x .path) (x .forest) ≡ x .done
+  progress-all : k ≤ j → arranged (x .keyList) (x .path) (x .forest) ≡ x .done
   progress-all l =
-      go (leastAbove (x .keyList) (x .path) (x .label-above) (x .forest)) (x .next) (least-next (x .keyList) (x .path) (x .forest) (x .sound) (x .label-above))
-    where
-      go : (o : Choice) → Picked src cells lo hi p o → Next (x .keyList) (x .path) (x .forest) (x .sound) (x .label-above) o → arranged (x .keyList) (x .path) (x .forest) ≡ x .done
-      go nobody (no-one e) w = x .whole ∙ ap (join (x .done)) w ∙ join-end (x .done)
-      go (chosen b k) (one g h i a t) w = absurd (omega arith)
+      let e : k ≡ j = omega (arith, lists-le (x .lists)) in
+      x .whole ∙ ap (λ r. join (x .done) (eachArranged (x .keyList) (x .path) r)) (lists-none (rw e at (x .lists))) ∙ unfold eachWith in join-end (x .done)
 
-  pub progress-done : hi ≤ p → ContentBuilt keyText table n place src cells lo hi out m to now
+  pub progress-done : k ≤ j → ContentBuilt keyText table n place src cells lo hi out m to now
   progress-done l =
       record {
         kept = x .kept;
-        tape = at-place (λ K q. (f : Forest) → Tape src cells lo hi f → Tape src now m to (arranged K q f)) (x .path) (x .tabled) (x .place-is) (x .sound .high)
+        tape = at-place (λ K q. (f : Forest) → Tape src cells lo hi f → Tape src now m to (arranged K q f)) (x .path) (x .tabled) (x .place-is) (x .high)
             (λ f h. rw (tape-one h (x .tape), progress-all l) (x .built));
       }
 
@@ -194,25 +184,34 @@ module _ {keyText : Bytes} {table : List ℕ} {n place : ℕ} {src cells : List 
   pub fit-checked : Checked keyText table n place src cells lo hi
   fit-checked = record { keyList = g .keyList; path = g .path; tabled = g .tabled; place-is = g .place-is; forest = g .forest; tape = g .tape; keyed = g .keyed }
 
-  pub progress-start : (out : List ℕ) {p : ℕ} → above (g .keyList) (g .path) ≡ true
-      → OfPlace keyText table n place (λ K q. (f : Forest) (o : Choice) → Tape src cells lo hi f → Picked src cells lo hi hi o → Picked src cells lo hi p (leastAbove K q (labelOf K q o) f))
-      → Progress keyText table n place src cells lo hi out m p m out
-  progress-start out h a =
-      let s : Sound (g .keyList) (g .path) (g .forest) = record { rules = rules-kept keyText (g .keyList) (g .tabled .accepted); high = h; placed = g .placed; keyed = g .keyed; single = g .single } in
-      record {
-        keyList = g .keyList;
-        path = g .path;
-        tabled = g .tabled;
-        place-is = g .place-is;
-        forest = g .forest;
-        tape = g .tape;
-        sound = s;
-        fits = g .fits;
-        done = end;
-        label-above = none;
-        built = at-end refl;
-        whole = unfold join in all-upper (g .keyList) (g .path) (g .forest) s;
-        next = a (g .keyList) (g .path) (g .tabled) (g .place-is) (g .forest) nobody (g .tape) (no-one refl);
-        kept = λ i l. refl;
-        long = refl;
-      }
+  pub fit-few-tags : Few src cells lo hi
+  fit-few-tags f h = rw (tape-one h (g .tape)) (omega (arith, g .fits, arranged-tags (g .keyList) (g .path) (g .forest) (g .placed)))
+
+  module _ (out order : List ℕ) (k : ℕ) (h : above (g .keyList) (g .path) ≡ true) (s : Sorted (g .keyList) (g .path) src cells lo hi order (g .forest) k) where
+    -- no two have the same label
+    pub fit-apart : k ≡ 513 → ⊥
+    fit-apart d =
+        clash (sym (s .alike d) ∙ or-left (twins (g .keyList) (g .path) (elements (g .forest))) (doubledKids (g .keyList) (g .path) (g .forest))
+        (sym (doubled-parts (g .keyList) (g .path) (g .forest) h) ∙ g .single))
+
+    pub progress-start : Progress keyText table n place src cells lo hi out m order 0 k m out
+    progress-start =
+        let rules = rules-kept keyText (g .keyList) (g .tabled .accepted) in
+        record {
+          keyList = g .keyList;
+          path = g .path;
+          tabled = g .tabled;
+          place-is = g .place-is;
+          high = h;
+          forest = g .forest;
+          tape = g .tape;
+          fits = g .fits;
+          done = end;
+          rest = _;
+          built = at-end refl;
+          lists = s .lists fit-apart;
+          kids = order-kids (g .keyList) (g .path) rules h (g .forest) (g .placed) (g .keyed) (g .single);
+          whole = unfold join in arranged-order (g .keyList) (g .path) rules h (g .forest) (g .placed) (g .keyed) (g .single);
+          kept = λ i l. refl;
+          long = refl;
+        }

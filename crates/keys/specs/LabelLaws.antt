@@ -3,7 +3,7 @@ use Prim.Native.Nat.{ℕ, _+_, _<_, _≤_}
 use native.Mathlib.Numerals.{add-one}
 use native.Mathlib.Omega.{arith}
 use mathlib.Core.Path.{_≡_, refl, sym, _∙_, ap}
-use mathlib.Core.Bool.{true, false}
+use mathlib.Core.Bool.{true}
 use mathlib.Core.List.{List, []}
 use mathlib.Core.Ordering.{Ordering, lt, eq, gt}
 use lib.Dec.{ltb}
@@ -21,7 +21,7 @@ use Rattle.keys.specs.Version.{_▸_, Label, called, isOneValue, valueIn
 use Rattle.keys.specs.Table.{placeOf, nameStart, nameEnd, Table}
 use Rattle.keys.specs.PlaceLaws.{mem-at}
 use Rattle.keys.specs.TableLaws.{table-bare, table-key-path, table-key-name}
-use Rattle.keys.specs.Ranks.{rank, rank-eq, rank-not, compareBytes}
+use Rattle.keys.specs.Ranks.{rank, rank-eq, compareBytes}
 use Rattle.keys.specs.FindKey.{KeyAt, key-value}
 use Rattle.keys.specs.Labelled.{valuesOf, KeyedAt}
 
@@ -103,7 +103,3 @@ module _ (K : KeyList) (p : Path) (m1 : Bytes) (k1 : Forest) (m2 : Bytes) (k2 : 
 pub same-label : (a b : Label) → rank (labels .cmp a b) ≡ 1 → sameLabel a b ≡ true
 unfolding sameLabel
 same-label a b h = ap isEq (rank-eq (labels .cmp a b) h)
-
-pub other-label : (a b : Label) → (rank (labels .cmp a b) ≡ 1 → ⊥) → sameLabel a b ≡ false
-unfolding sameLabel
-other-label a b h = rank-not (labels .cmp a b) h

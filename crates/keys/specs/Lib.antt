@@ -49,12 +49,12 @@ pub mod Labelled
 pub mod LabelLaws
 pub mod DropLaws
 pub mod Checked
+pub mod Siblings
+pub mod SiblingLaws
 pub mod Doubles
-pub mod Choice
-pub mod ChoiceLaws
+pub mod Entries
+pub mod Gathering
 pub mod Arranged
-pub mod Least
-pub mod Picked
 pub mod Copied
 pub mod Building
 pub mod BuildingLaws

@@ -30,10 +30,10 @@ rank-lt lt e = refl
 rank-lt eq e = absurd (omega arith)
 rank-lt gt e = absurd (omega arith)
 
-pub rank-not : (o : Ordering) → (rank o ≡ 1 → ⊥) → isEq o ≡ false
-rank-not lt e = refl
-rank-not eq e = absurd (e refl)
-rank-not gt e = refl
+pub rank-gt : (o : Ordering) → (rank o ≡ 0 → ⊥) → (rank o ≡ 1 → ⊥) → o ≡ gt
+rank-gt lt a b = absurd (a refl)
+rank-gt eq a b = absurd (b refl)
+rank-gt gt a b = refl
 
 abbrev pub compareBytes : Bytes → Bytes → Ordering
 compareBytes a b = cmpL numbers a b

@@ -6,6 +6,7 @@ use mathlib.Core.Option.{Option, some}
 use lib.ListN.{length, length-append}
 use Rattle.xml.specs.Bytes.{Bytes}
 use Rattle.xml.specs.Forest.{Forest, elem, write, nodes, depth}
+use Rattle.xml.specs.Tape.{size}
 use Rattle.keys.specs.KeyList.{Path, KeyList}
 use Rattle.keys.specs.Version.{_▸_, Label, label, tooLarge, misplaced, sameLabel, find, isSome}
 use Rattle.xml.specs.Truth.{bool-by, or-swap}
@@ -33,6 +34,10 @@ module _ (K : KeyList) {p : Path} {f g : Forest} (t : Sorting K p f g) where
   pub sorted-nodes : nodes g ≡ nodes f
   unfolding nodes
   sorted-nodes = sorted-kept K (λ _ h. nodes h) (λ p n k m j r. omega arith) (λ p n k r s e. omega arith) (λ p n k j r e. omega arith) t
+
+  pub sorted-size : size g ≡ size f
+  unfolding size
+  sorted-size = sorted-kept K (λ _ h. size h) (λ p n k m j r. omega arith) (λ p n k r s e. omega arith) (λ p n k j r e. omega arith) t
 
   sorted-length : length (write g) ≡ length (write f)
   unfolding write

@@ -54,7 +54,7 @@ and-none : (a : Bool) {b : Bool} → b ≡ false → (a && b) ≡ false
 and-none true e = e
 and-none false e = refl
 
-same-turned : (a b : Label) → sameLabel a b ≡ sameLabel b a
+pub same-turned : (a b : Label) → sameLabel a b ≡ sameLabel b a
 unfolding sameLabel
 same-turned a b = sym (ap isEq (labels .turn a b) ∙ go (labels .cmp a b))
   where

@@ -4,7 +4,7 @@ use crate::label::find_key;
 use crate::places::child;
 use crate::places::key_count;
 use crate::places::key_name;
-use xml::class::class;
+use xml::class::is_name_byte;
 use xml::compare::same_bytes;
 use xml::tape::view_at;
 ghost use mathlib.Core.Path.{_≡_};
@@ -55,7 +55,7 @@ fn value_len(s: &[u8], at: usize) -> usize
 {
     let mut n = 0;
     while n < 33 && at + n < s.len() {
-        if class(s[at + n]) / 2 != 1 {
+        if !is_name_byte(s[at + n]) {
             return n;
         }
         n += 1;

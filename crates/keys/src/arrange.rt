@@ -1,6 +1,6 @@
 // A version's kept nodes in canonical order, on a second tape.
-use crate::choose::least_after;
 use crate::doubles::doubled_in;
+use crate::order::order_in;
 use crate::places::child;
 use crate::places::is_above;
 use xml::tape::view_at;
@@ -55,8 +55,7 @@ fn arrange_element(
     end
 }
 
-// Builds the nodes lo to hi, in an element at the place: in canonical order above the frontiers, where the next is always the one with the least
-// label above that of the last; as they are beneath.
+// Builds the nodes lo to hi, in an element at the place: in canonical order above the frontiers, as they are beneath.
 fn arrange_content(
     text: &[u8],
     table: &[u32],
@@ -75,11 +74,14 @@ fn arrange_content(
     if !is_above(table, n, place) {
         return copy(tape, lo, hi, out, m);
     }
+    let mut order = [0u32; 512];
+    let k = order_in(text, table, n, place, src, tape, lo, hi, &mut order);
     let mut to = m;
-    let mut p = least_after(text, table, n, place, src, tape, lo, hi, hi);
-    while p < hi {
+    let mut j = 0;
+    while j < k {
+        let p = order[j] as usize;
         to = arrange_element(text, table, n, place, src, tape, p, out, to);
-        p = least_after(text, table, n, place, src, tape, lo, hi, p);
+        j += 1;
     }
     to
 }

@@ -3,7 +3,7 @@ use crate::label::find_key;
 use crate::places::child;
 use crate::places::key_count;
 use crate::places::key_name;
-use xml::class::class;
+use xml::class::is_name_byte;
 use xml::tape::view_at;
 ghost use mathlib.Core.Path.{_≡_};
 ghost use mathlib.Core.List.{[]};
@@ -30,7 +30,7 @@ pub fn is_value(src: &[u8], a: usize, e: usize) -> bool
     }
     let mut i = a;
     while i < e {
-        if class(src[i]) / 2 != 1 {
+        if !is_name_byte(src[i]) {
             return false;
         }
         i += 1;

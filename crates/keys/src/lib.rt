@@ -1,7 +1,6 @@
 // Key lists, addresses and legal versions. The definitions and their laws are in specs/.
 pub mod address;
 pub mod arrange;
-pub mod choose;
 pub mod compare;
 pub mod doubles;
 pub mod keyed;
@@ -9,5 +8,6 @@ pub mod label;
 pub mod load;
 pub mod measure;
 pub mod notation;
+pub mod order;
 pub mod placed;
 pub mod places;

@@ -4,18 +4,21 @@ use native.Mathlib.Omega.{arith}
 use mathlib.Core.Path.{_≡_, refl, sym, _∙_, ap}
 use mathlib.Core.Bool.{Bool, true, false}
 use mathlib.Core.List.{List}
+use borrow.Author.Tests.{eqb-true, eqb-false}
+use lib.Dec.{eqb}
 use lib.ListN.{length}
 use Rattle.xml.specs.Complete.{join-end, join-assoc}
 use Rattle.xml.specs.Forest.{Forest, end, join}
 use Rattle.xml.specs.Tape.{headAt, nextAt, startIn, endIn, Tape, at-end}
-use Rattle.xml.specs.TapeLaws.{bytesAt, Front, tape-le, tape-none, tape-join, split, inner-node}
+use Rattle.xml.specs.TapeLaws.{bytesAt, Front, tape-le, tape-none, tape-one, tape-join, front, split, inner-node}
 use lib.Seq.{length-slice}
 use Rattle.xml.specs.Signs.{spelt}
 use Rattle.xml.specs.SignLaws.{length-spelt}
-use Rattle.xml.specs.Truth.{clash, or-both, or-first, or-second}
+use Rattle.xml.specs.Truth.{by-test, clash, or-both, or-first, or-second}
 use Rattle.versions.specs.Sizes.{ownNodes, ownBytes, timedIn}
 use Rattle.versions.specs.Grown.{Cells, grown-none, grown-then, grown-same}
-use Rattle.legality.specs.Measured.{owned, stops, nodes-join, bytes-join, timed-join, stops-join, few-nodes, few-bytes, Room, Sums, Measured}
+use Rattle.legality.specs.Measured.{owned, stops, nodes-join, bytes-join, timed-join, stops-join, few-nodes, few-bytes, AllRead, read-join, Room, Sums, Measured}
+use Rattle.legality.specs.Raised.{Readable}
 use Rattle.legality.specs.declared.sizes.Own.{Own}
 
 -- the nodes lo to p are measured, and p to q are left
@@ -58,9 +61,11 @@ module _ {src cells : List ℕ} where
       let z = tape-le (s .here) in
       let j = tape-le (s .after) in
       let u = tape-le (g .before) in
+      let e : m .forest ≡ join (g .done) (join (s .first) (s .rest)) = tape-one (m .tape) (tape-join (g .before) (g .after)) ∙ ap (join (g .done)) (s .is) in
       record {
         forest = s .first;
         tape = s .here;
+        stamps = read-join (s .first) (s .rest) (read-join (g .done) (join (s .first) (s .rest)) (rw e at (m .stamps)) .1) .0;
         few = omega (arith, m .few);
         nodes-count = g .sums .in-nodes .count ∙ m .nodes-count;
         bytes-count = g .sums .in-bytes .count ∙ m .bytes-count;
@@ -125,12 +130,23 @@ module _ {src cells : List ℕ} where
   pub name-length : {p q : ℕ} → Front src cells p q → length (bytesAt src cells p) ≡ endIn (headAt cells p) - startIn (headAt cells p)
   name-length {p} g = length-slice (startIn (headAt cells p)) (endIn (headAt cells p)) src (g .within)
 
+  inner-read : {p : ℕ} {f : Forest} (t : Tape src cells p (nextAt cells p) f) (l : p < nextAt cells p) (k : headAt cells p % 4 ≡ 0 → ⊥) → AllRead f → AllRead (inner-node t l k .kids)
+  inner-read {p} t l k a =
+      let i = inner-node t l k in
+      by-test (eqb (headAt cells p % 4) 1) (λ q. (rw (i .element (eqb-true (headAt cells p % 4) 1 q)) at a) .0)
+      (λ q. (rw (i .timed (omega (arith, front t l .kind, k, eqb-false (headAt cells p % 4) 1 q))) at a) .1)
+
+  -- a `T` has the text of a set
+  pub inner-text : {p : ℕ} {x y : List ℕ} → Room src cells p (nextAt cells p) x y → p < nextAt cells p → headAt cells p % 4 ≡ 2 → Readable (bytesAt src cells p)
+  inner-text m l k = (rw (inner-node (m .tape) l (λ z. omega arith) .timed k) at (m .stamps)) .0
+
   pub inner-room : {p : ℕ} {x y : List ℕ} → Room src cells p (nextAt cells p) x y → p < nextAt cells p → (headAt cells p % 4 ≡ 0 → ⊥) → Room src cells (p + 1) (nextAt cells p) x y
   inner-room m l k =
       let i = inner-node (m .tape) l k in
       record {
         forest = i .kids;
         tape = i .tape;
+        stamps = inner-read (m .tape) l k (m .stamps);
         few = m .few;
         nodes-count = m .nodes-count;
         bytes-count = m .bytes-count;

@@ -9,7 +9,7 @@ use mathlib.Core.List.{[], _∷_}
 use borrow.Author.Tests.{le-ltb, lt-ltb, leb-true, leb-false, ltb-true, eqb-true, eqb-false}
 use lib.Dec.{eqb, leb, ltb}
 use lib.ListN.{length, getD}
-use Rattle.xml.specs.Bytes.{Bytes, bytes, same, all}
+use Rattle.xml.specs.Bytes.{Bytes, bytes, isEmpty, same, all}
 use Rattle.xml.specs.Forest.{Forest, end, elem, text, stamp, join, depth}
 use Rattle.xml.specs.Read.{isEnd}
 use Rattle.xml.specs.Truth.{by-test, clash, both-true, and-left, and-right, and-both, or-first, or-second}
@@ -20,13 +20,15 @@ use Rattle.keys.specs.Legal.{untimed}
 use Rattle.timestamp.specs.Times.{Times, sameTimes, belongs}
 use Rattle.timestamp.specs.TimesLaws.{times-is, bool-eq, or-by}
 use Rattle.timestamp.specs.Runs.{getD-from}
-use Rattle.timestamp.specs.Parse.{Outcome, refused, accepted, parsed}
+use Rattle.timestamp.specs.Listed.{textOf}
+use Rattle.timestamp.specs.Parse.{Outcome, refused, accepted, numbersIn, parsed}
 use Rattle.versions.specs.Archive.{pick}
 use Rattle.versions.specs.Sizes.{Nested}
 use Rattle.versions.specs.Walk.{timesIn, canonical, ever, within, branchesIn, allTimed, apart, contentsApart, together, frontLegal, isSole, firstLabel, precedes, siblingsLegal}
 use Rattle.versions.specs.ListedLaws.{ever-some}
 use Rattle.versions.specs.LegalTexts.{fits, legal-text}
-use Rattle.legality.specs.Measured.{isRefused, stops}
+use Rattle.legality.specs.Measured.{stops, AllRead}
+use Rattle.legality.specs.Raised.{Readable}
 
 -- every version of t is one of u
 abbrev pub Inside : Times → Times → Type 0
@@ -163,23 +165,30 @@ suc-ltb d a =
     by-test (eqb d 0) (λ x. or-first (eqb d 0) (ltb (d - 1) a) x) (λ x. or-second (eqb d 0) (ltb (d - 1) a) (lt-ltb (d - 1) a (omega (arith, eqb-false d 0 x)))))
     (λ e. or-by (eqb d 0) (ltb (d - 1) a) e (λ x. lt-ltb d (1 + a) (omega (arith, eqb-true d 0 x))) (λ x. lt-ltb d (1 + a) (omega (arith, ltb-true (d - 1) a x))))
 
-accepted-text : (n : ℕ) (s : Bytes) → n ≤ 999 → (canonical n s && ever (timesIn n s)) ≡ true → isRefused (parsed s) ≡ false
-accepted-text n s b h = go (parsed s) (sym (legal-text n s b) ∙ h)
+text-readable : (n : ℕ) (s : Bytes) → n ≤ 999 → (canonical n s && ever (timesIn n s)) ≡ true → Readable s
+unfolding parsed
+text-readable n s b h = go (not (isEmpty s) && same s (textOf (numbersIn s))) (sym (legal-text n s b) ∙ h)
   where
-    go : (o : Outcome) → fits n o ≡ true → isRefused o ≡ false
-    go refused e = clash (sym e)
-    go (accepted u) e = refl
+    go : (q : Bool) → fits n (elim q as (λ _. Outcome) [ true ↦ accepted (numbersIn s) | false ↦ refused ]) ≡ true → elim q as (λ _. Outcome) [ true ↦ accepted (numbersIn s) | false ↦ refused ] ≡ accepted (numbersIn s)
+    go true e = refl
+    go false e = clash (sym e)
 
-pub layered-stops : (n : ℕ) (w : Bool) (t : Times) (f : Forest) (d : ℕ) → n ≤ 999 → Layered n w t f → stops d w f ≡ ltb d (depth f)
+pub layered-read : (n : ℕ) (w : Bool) (t : Times) (f : Forest) → n ≤ 999 → Layered n w t f → AllRead f
+layered-read n w t end b h = tt
+layered-read n w t (text c r) b h = layered-read n w t r b h
+layered-read n w t (elem m k r) b h = (layered-read n false t k b (h .0), layered-read n w t r b (h .1))
+layered-read n w t (stamp s k r) b h = (text-readable n s b (h .0), layered-read n true (timesIn n s) k b (h .2), layered-read n w t r b (h .3))
+
+pub layered-stops : (n : ℕ) (w : Bool) (t : Times) (f : Forest) (d : ℕ) → Layered n w t f → stops d w f ≡ ltb d (depth f)
 unfolding stops depth
-layered-stops n w t end d b h = sym (le-ltb d 0 (omega arith))
-layered-stops n w t (text c r) d b h = layered-stops n w t r d b h
-layered-stops n w t (elem m k r) d b h =
-    ap₂ (λ (x y : Bool). eqb d 0 || x || y) (layered-stops n false t k (d - 1) b (h .0)) (layered-stops n w t r d b (h .1))
+layered-stops n w t end d h = sym (le-ltb d 0 (omega arith))
+layered-stops n w t (text c r) d h = layered-stops n w t r d h
+layered-stops n w t (elem m k r) d h =
+    ap₂ (λ (x y : Bool). eqb d 0 || x || y) (layered-stops n false t k (d - 1) (h .0)) (layered-stops n w t r d (h .1))
     ∙ ap (λ (x : Bool). x || ltb d (depth r)) (sym (suc-ltb d (depth k))) ∙ sym (max-ltb d (1 + depth k) (depth r))
-layered-stops n w t (stamp s k r) d b h =
-    ap₂ (λ (x y : Bool). x || y || stops d true k || stops d w r) (h .4) (accepted-text n s b (h .0))
-    ∙ ap₂ (λ (x y : Bool). x || y) (layered-stops n true (timesIn n s) k d b (h .2)) (layered-stops n w t r d b (h .3)) ∙ sym (max-ltb d (depth k) (depth r))
+layered-stops n w t (stamp s k r) d h =
+    ap (λ (x : Bool). x || stops d true k || stops d w r) (h .4)
+    ∙ ap₂ (λ (x y : Bool). x || y) (layered-stops n true (timesIn n s) k d (h .2)) (layered-stops n w t r d (h .3)) ∙ sym (max-ltb d (depth k) (depth r))
 
 -- ---- no version is deeper, and some version is as deep
 depth-join : (f g : Forest) → depth (join f g) ≡ max (depth f) (depth g)

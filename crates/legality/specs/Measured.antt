@@ -15,27 +15,30 @@ use Rattle.xml.specs.TapeLaws.{bytesAt, tape-le, node-bytes, length-unescape, l
 use Rattle.xml.specs.Truth.{clash}
 use Rattle.timestamp.specs.Times.{belongs}
 use Rattle.timestamp.specs.Listed.{belongs-listed}
-use Rattle.timestamp.specs.Parse.{Outcome, refused, accepted, parsed}
+use Rattle.timestamp.specs.Parse.{accepted, parsed}
 use Rattle.timestamp.specs.Parses.{text-parse}
 use Rattle.versions.specs.Sizes.{one, ownNodes, ownBytes, whenIn, timedIn}
 use Rattle.versions.specs.Grown.{Grown, grown-none, grown-then, grown-same}
+use Rattle.legality.specs.Raised.{Readable}
 use Rattle.legality.specs.declared.sizes.Own.{Own}
 
 -- what a walk that has not stopped answers
 abbrev pub owned : ℕ → ℕ → Own
 owned n b = record { nodes = n; bytes = b; stopped = false }
 
-abbrev pub isRefused : Outcome → Bool
-isRefused refused = true
-isRefused (accepted s) = false
+-- each `T` has the text of a set
+abbrev pub AllRead : Forest → Type 0
+AllRead end = Unit {0}
+AllRead (text b r) = AllRead r
+AllRead (elem m k r) = AllRead k × AllRead r
+AllRead (stamp t k r) = Readable t × AllRead k × AllRead r
 
--- the walk stops at an element deeper than it may go, at a `T` straight in a `T` (w says whether the forest stands so), or at one whose
--- text is that of no set
+-- the walk stops at an element deeper than it may go, or at a `T` straight in a `T` (w says whether the forest stands so)
 unfoldable pub stops : ℕ → Bool → Forest → Bool
 stops d w end = false
 stops d w (text b r) = stops d w r
 stops d w (elem m k r) = eqb d 0 || stops (d - 1) false k || stops d w r
-stops d w (stamp t k r) = w || isRefused (parsed t) || stops d true k || stops d w r
+stops d w (stamp t k r) = w || stops d true k || stops d w r
 
 -- ---- forests one after the other
 pub nodes-join : (f g : Forest) → ownNodes (join f g) ≡ ownNodes f + ownNodes g
@@ -66,7 +69,14 @@ stops-join d w (text b r) g = stops-join d w r g
 stops-join d w (elem m k r) g =
     ap (λ (x : Bool). eqb d 0 || stops (d - 1) false k || x) (stops-join d w r g) ∙ sym (or-assoc (eqb d 0 || stops (d - 1) false k) (stops d w r) (stops d w g))
 stops-join d w (stamp t k r) g =
-    ap (λ (x : Bool). w || isRefused (parsed t) || stops d true k || x) (stops-join d w r g) ∙ sym (or-assoc (w || isRefused (parsed t) || stops d true k) (stops d w r) (stops d w g))
+    ap (λ (x : Bool). w || stops d true k || x) (stops-join d w r g) ∙ sym (or-assoc (w || stops d true k) (stops d w r) (stops d w g))
+
+pub read-join : (f g : Forest) → AllRead (join f g) → AllRead f × AllRead g
+unfolding join
+read-join end g h = (tt, h)
+read-join (text b r) g h = read-join r g h
+read-join (elem m k r) g h = let z = read-join r g (h .1) in ((h .0, z .0), z .1)
+read-join (stamp t k r) g h = let z = read-join r g (h .2) in ((h .0, h .1, z .0), z .1)
 
 -- ---- an element's count
 pub one-none : (n : Bytes) → same n (bytes "T") ≡ true → one n ≡ 0
@@ -109,6 +119,7 @@ module _ {src cells : List ℕ} where
 pub record Room (src cells : List ℕ) (lo hi : ℕ) (nodes bytes : List ℕ) : Type 0 where
   pub forest : Forest
   pub tape : Tape src cells lo hi forest
+  pub stamps : AllRead forest
   pub few : hi ≤ 16384
   pub nodes-count : length nodes ≡ 1000
   pub bytes-count : length bytes ≡ 1000
@@ -182,20 +193,13 @@ module _ {src cells : List ℕ} {p left : ℕ} {w : Bool} {x y : List ℕ} where
       let i = inner-node t l (λ z. omega arith) in
       stopped-measured refl refl s (rw (i .timed k, e) refl)
 
-  -- a `T` whose text is that of no set
-  pub refused-measured : {f : Forest} {r : Own} → Tape src cells p (nextAt cells p) f → p < nextAt cells p → headAt cells p % 4 ≡ 2 → w ≡ false → parsed (bytesAt src cells p) ≡ refused → r .stopped ≡ true → Measured left w f r x x y y
-  unfolding stops
-  refused-measured t l k q e s =
-      let i = inner-node t l (λ z. omega arith) in
-      stopped-measured refl refl s (rw (i .timed k, q, e) refl)
-
-  pub timed-stopped : {f : Forest} {r : Own} {x′ y′ : List ℕ} {s : ℕ → Bool} → Tape src cells p (nextAt cells p) f → p < nextAt cells p → headAt cells p % 4 ≡ 2 → w ≡ false → parsed (bytesAt src cells p) ≡ accepted s
+  pub timed-stopped : {f : Forest} {r : Own} {x′ y′ : List ℕ} → Tape src cells p (nextAt cells p) f → p < nextAt cells p → headAt cells p % 4 ≡ 2 → w ≡ false
       → ((g : Forest) → Tape src cells (p + 1) (nextAt cells p) g → Measured left true g r x x′ y y′) → r .stopped ≡ true → Measured left w f r x x′ y y′
   unfolding stops
-  timed-stopped t l k q e m s =
+  timed-stopped t l k q m s =
       let i = inner-node t l (λ z. omega arith) in
       let j = m (i .kids) (i .tape) in
-      stopped-measured (j .nodes-kept) (j .bytes-kept) s (rw (i .timed k, q, e, sym (j .stop) ∙ s) refl)
+      stopped-measured (j .nodes-kept) (j .bytes-kept) s (rw (i .timed k, q, sym (j .stop) ∙ s) refl)
 
   pub timed-measured : {f : Forest} {r : Own} {x′ y′ x″ y″ : List ℕ} {s : ℕ → Bool} → Tape src cells p (nextAt cells p) f → p < nextAt cells p → headAt cells p % 4 ≡ 2 → w ≡ false → parsed (bytesAt src cells p) ≡ accepted s
       → ((g : Forest) → Tape src cells (p + 1) (nextAt cells p) g → Measured left true g r x x′ y y′) → r .stopped ≡ false
@@ -208,7 +212,7 @@ module _ {src cells : List ℕ} {p left : ℕ} {w : Bool} {x y : List ℕ} where
       let u = j .sums q in
       let b = bytesAt src cells p in
       let z = text-parse b s e in
-      rw (i .timed k) (sums-measured (rw (v, e, sym (j .stop) ∙ q) refl) (record {
+      rw (i .timed k) (sums-measured (rw (v, sym (j .stop) ∙ q) refl) (record {
         own-nodes = refl;
         own-bytes = refl;
         in-nodes = grown-same (λ v. whenIn (belongs v b) (ownNodes (i .kids)) + timedIn ownNodes v (i .kids) + 0)

@@ -6,13 +6,12 @@ use mathlib.Core.Bool.{Bool, true, false}
 use mathlib.Core.List.{List}
 use lib.ListN.{length}
 use Rattle.xml.specs.Bytes.{Bytes, same}
+use Rattle.xml.specs.BytesLaws.{same-is}
 use Rattle.xml.specs.Forest.{Forest, write}
 use Rattle.xml.specs.Read.{Outcome, whole, broken, read}
 use Rattle.xml.specs.Tape.{Tape}
 use Rattle.xml.specs.State.{Overfull, Filled, Replied}
 use Rattle.xml.specs.Fits.{version-fits, full-archive}
-use Rattle.xml.specs.Neat.{neat}
-use Rattle.xml.specs.NeatSpelled.{neat-spelled}
 use Rattle.xml.specs.Truth.{by-test, not-so}
 use Rattle.xml.specs.declared.Reply.{Reply}
 use Rattle.xml.specs.declared.Reply.the-variants.{Done as Reads, Wrong, Full}
@@ -30,6 +29,7 @@ use Rattle.legality.specs.declared.open.Opened.the-variants.{Done, Illeg
 pub record ArchiveOn (K : KeyList) (src cells : List ℕ) (hi n : ℕ) : Type 0 where
   pub forest : Forest
   pub is : archiveRead K src ≡ ok forest
+  pub spelled : src ≡ write forest
   pub legal : forestLegal K forest ≡ true
   pub tape : Tape src cells 0 hi forest
   pub last : lastVersion forest ≡ n
@@ -39,12 +39,13 @@ abbrev pub Opens : Bytes → List ℕ → ℕ → List ℕ → List ℕ → Open
 Opens keyText table paths src cells (Done hi n) = (K : KeyList) → Table keyText table paths K → ArchiveOn K src cells hi n
 Opens keyText table paths src cells Illegal = (K : KeyList) → Table keyText table paths K → archiveRead K src ≡ refused r10
 
--- a text was read as an archive's onto the tape, whose nodes are few
+-- a short text was read as an archive's onto the tape, whose nodes are few
 pub record ReadOn (src cells : List ℕ) (hi : ℕ) : Type 0 where
   pub forest : Forest
   pub is : read true src ≡ whole forest
   pub tape : Tape src cells 0 hi forest
   pub few : hi ≤ 16384
+  pub short : length src ≤ 32768
 
 -- what is answered of the nodes 0 to hi: the last version of the legal archive that they are, or 0
 abbrev pub Judged : Bytes → List ℕ → ℕ → List ℕ → List ℕ → ℕ → ℕ → Type 0
@@ -55,7 +56,7 @@ module _ (src before cells : List ℕ) {r : Reply} where
   pub opened-read : {hi : ℕ} → r ≡ Reads hi → Replied true src before cells r → length src ≤ 32768 → ReadOn src cells hi
   opened-read {hi} e x l =
       let g : Filled true src before cells hi = subst (Replied true src before cells) e x in
-      record { forest = g .forest; is = g .is; tape = g .tape; few = omega (arith, g .count, version-fits true src (g .forest) (g .is)) }
+      record { forest = g .forest; is = g .is; tape = g .tape; few = omega (arith, g .count, version-fits true src (g .forest) (g .is)); short = l }
 
   pub opened-wrong : {p : ℕ} → r ≡ Wrong p → Replied true src before cells r → read true src ≡ broken p
   opened-wrong e x = subst (Replied true src before cells) e x
@@ -94,12 +95,9 @@ pub opened-full : (src before cells : List ℕ) {r : Reply} → r ≡ Full → R
 opened-full src before cells e x c l K = full-read K src cells (subst (Replied true src before cells) e x) c l
 
 -- ---- what is judged of a text that was read
-spelling : {src cells : List ℕ} {hi : ℕ} (g : ReadOn src cells hi) {b : Bool} → b ≡ neat src → b ≡ same src (write (g .forest))
-spelling {src} g d = d ∙ neat-spelled true src (g .forest) (g .is)
-
-module _ {keyText : Bytes} {table : List ℕ} {paths : ℕ} {src cells : List ℕ} {hi : ℕ} (g : ReadOn src cells hi) {b : Bool} (d : b ≡ neat src) where
+module _ {keyText : Bytes} {table : List ℕ} {paths : ℕ} {src cells : List ℕ} {hi : ℕ} (g : ReadOn src cells hi) {b : Bool} (d : b ≡ same src (write (g .forest))) where
   pub judged-misspelled : b ≡ false → (K : KeyList) → Table keyText table paths K → archiveRead K src ≡ refused r10
-  judged-misspelled e K t = misspelled-read K src (g .forest) (g .is) (sym (spelling g d) ∙ e)
+  judged-misspelled e K t = misspelled-read K src (g .forest) (g .is) (sym d ∙ e)
 
   pub judged-legal : {r : ℕ} → Judged keyText table paths src cells hi r → b ≡ true → (r ≡ 0 → ⊥) → (K : KeyList) → Table keyText table paths K → ArchiveOn K src cells hi r
   judged-legal j e z K t =
@@ -107,7 +105,8 @@ module _ {keyText : Bytes} {table : List ℕ} {paths : ℕ} {src cells : List �
       let h = whole-some K (g .forest) (λ y. z (w ∙ y)) in
       record {
         forest = g .forest;
-        is = legal-read K src (g .forest) (g .is) (sym (spelling g d) ∙ e) (h .0);
+        is = legal-read K src (g .forest) (g .is) (sym d ∙ e) (h .0);
+        spelled = same-is src (write (g .forest)) (sym d ∙ e);
         legal = h .0;
         tape = g .tape;
         last = sym (w ∙ h .1);

@@ -22,7 +22,7 @@ use Rattle.versions.specs.Walk.{siblingsLegal, allSmall}
 use Rattle.versions.specs.Sizes.{ownNodes, ownBytes, timedIn, Nested, nodes-pick, bytes-pick}
 use Rattle.versions.specs.Grown.{Cells}
 use Rattle.legality.specs.Measured.{stops, few-nodes, few-bytes, Room, Sums, Measured}
-use Rattle.legality.specs.Layered.{Layered, siblings-layered, layered-nested, layered-stops, depth-pick, layered-reached}
+use Rattle.legality.specs.Layered.{Layered, siblings-layered, layered-nested, layered-read, layered-stops, depth-pick, layered-reached}
 use Rattle.versions.specs.Small.{LegalInside, isSmall}
 use Rattle.legality.specs.declared.sizes.Own.{Own}
 
@@ -113,12 +113,12 @@ module _ (K : KeyList) (n : ℕ) (some-there : 1 ≤ n) (not-more : n ≤ 999) (
 
   -- ---- as the walk has it
   pub small-stopped : stops 16 false f ≡ true → allSmall n f ≡ false
-  small-stopped e = small-deep (ltb-true 16 (depth f) (sym (layered-stops n false (always n) f 16 not-more layers) ∙ e))
+  small-stopped e = small-deep (ltb-true 16 (depth f) (sym (layered-stops n false (always n) f 16 layers) ∙ e))
 
   pub small-is : (x y : ℕ) (a b : List ℕ) → stops 16 false f ≡ false → Sums f x y noughts a noughts b → allSmall n f ≡ all (isSmall a b x y) (upFrom 1 n)
   unfolding isSmall sizesFit
   small-is x y a b e s =
-      small-flat (ltb-false 16 (depth f) (sym (layered-stops n false (always n) f 16 not-more layers) ∙ e))
+      small-flat (ltb-false 16 (depth f) (sym (layered-stops n false (always n) f 16 layers) ∙ e))
       ∙ all-same (sizesFit f) (isSmall a b x y) 1 n (λ j l h.
       let z = zeros j (omega arith) in
       let u : ownNodes f + timedIn ownNodes j f ≡ x + getD a j 0 = omega (arith, s .own-nodes, s .in-nodes .each j l (omega arith)) in
@@ -133,6 +133,7 @@ module _ {src cells : List ℕ} {lo hi n : ℕ} (w : LegalInside src cells lo hi
       record {
         forest = w .forest;
         tape = w .tape;
+        stamps = layered-read n false (always n) (w .forest) (w .not-more) (siblings-layered n (w .keys) [] (always n) (w .forest) (w .legal));
         few = m;
         nodes-count = noughts-count;
         bytes-count = noughts-count;

@@ -7,19 +7,20 @@ use xml::compare::same_nodes;
 use xml::tape::view_at;
 ghost use mathlib.Core.Path.{_≡_};
 ghost use mathlib.Core.Bool.{not, _&&_};
-ghost use Prim.Native.Nat.{_≤_};
+ghost use Prim.Native.Nat.{ℕ, _≤_};
 ghost use lib.ListN.{length};
 ghost use lib.Seq.{slice};
 ghost use Rattle.xml.specs.Forest.{Forest, end, sameForest};
 ghost use Rattle.xml.specs.Tape.{Tape, Valid};
 ghost use Rattle.keys.specs.Legal.{untimed};
 ghost use Rattle.timestamp.specs.Times.{Times};
-ghost use Rattle.timestamp.specs.Set.{setOf, none};
+ghost use Rattle.timestamp.specs.Set.{setOf, none, upTo};
 ghost use Rattle.timestamp.specs.Listed.{listed, Only};
 ghost use Rattle.versions.specs.Walk.{frontLegal};
 ghost use Rattle.versions.specs.Untimed.{timedNode};
 ghost use Rattle.versions.specs.Branches.{repeats, follows, judged};
 ghost use Rattle.versions.specs.Marks.{MarkOf, Notes};
+ghost use Rattle.legality.specs.Seen.{isSeen, SeenToo, Seen};
 
 // A node of this kind, named by src[a..e], is a `T` or an element with that name.
 pub fn is_timed(src: &[u8], kind: u32, a: usize, e: usize) -> bool
@@ -57,10 +58,10 @@ fn same_content(
     tape: &[u32],
     a: usize,
     e: usize,
-    m: u32,
+    m: u16,
     lo: usize,
     hi: usize,
-    x: u32,
+    x: u16,
 ) -> bool
     requires { ⌜ Valid (now src) (now tape) a e × Valid (now src) (now tape) lo hi × MarkOf (now src) (now tape) a e m × MarkOf (now src) (now tape) lo hi x ⌝ }
     ensures { λ r. ⌜ ((k g : Forest) → Tape (now (src .entry)) (now (tape .entry)) a e k → Tape (now (src .entry)) (now (tape .entry)) lo hi g
@@ -80,8 +81,8 @@ fn is_repeated(
     hi: usize,
     a: usize,
     e: usize,
-    marks: &[u32],
-    m: u32,
+    marks: &[u16],
+    m: u16,
 ) -> bool
     requires { ⌜ Valid (now src) (now tape) lo hi × Valid (now src) (now tape) a e × MarkOf (now src) (now tape) a e m
         × Notes (now src) (now tape) lo hi (now marks) 0 ⌝ }
@@ -102,7 +103,25 @@ fn is_repeated(
     false
 }
 
-// The nodes a to e, with the mark m, have no `T`, and none of the nodes lo to hi holds the same.
+// The bit of the mark m is set in the table `seen`, which has one for each remainder of a mark by 16,384.
+fn is_marked(seen: &[u64; 256], m: u16) -> bool
+    ensures { λ r. ⌜ r ≡ isSeen (now (seen .entry)) m ⌝ }
+{
+    let v = (m % 16384) as usize;
+    (seen[v / 64] >> (v % 64)) % 2 == 1
+}
+
+// Sets the bit of the mark m in the table.
+fn set_mark(seen: &mut [u64; 256], m: u16)
+    requires { ⌜ length (now seen) ≡ 256 ⌝ }
+    ensures { λ r. ⌜ SeenToo (now (seen .entry)) m (now (seen .exit)) ⌝ }
+{
+    let v = (m % 16384) as usize;
+    let k = v / 64;
+    seen[k] = (1u64 << (v % 64)) | seen[k];
+}
+
+// The nodes a to e, with the mark m, have no `T`, and none of the nodes lo to hi holds the same; the marks of what those hold are set in `seen`.
 fn content_legal(
     src: &[u8],
     tape: &[u32],
@@ -110,26 +129,29 @@ fn content_legal(
     hi: usize,
     a: usize,
     e: usize,
-    marks: &[u32],
-    m: u32,
+    marks: &[u16],
+    seen: &[u64; 256],
+    m: u16,
 ) -> bool
     requires { ⌜ Valid (now src) (now tape) lo hi × Valid (now src) (now tape) a e × MarkOf (now src) (now tape) a e m
-        × Notes (now src) (now tape) lo hi (now marks) 0 ⌝ }
+        × Notes (now src) (now tape) lo hi (now marks) 0 × Seen (now src) (now tape) lo hi (now seen) ⌝ }
     ensures { λ r. ⌜ ((d k : Forest) → Tape (now (src .entry)) (now (tape .entry)) lo hi d → Tape (now (src .entry)) (now (tape .entry)) a e k
         → r ≡ (untimed k && not (repeats k d))) ⌝ }
 {
     if !is_untimed(src, tape, a, e) {
         return false;
     }
+    if !is_marked(seen, m) {
+        return true;
+    }
     !is_repeated(src, tape, lo, hi, a, e, marks, m)
 }
 
-// The set is one of versions 1 to n, has none of the union of those before it, and begins after `first`.
-fn may_follow(set: Timestamp, n: usize, union: Timestamp, first: usize) -> bool
-    requires { ⌜ n ≤ 999 ⌝ }
-    ensures { λ r. ⌜ r ≡ follows n (setOf (union .words)) first (setOf (set .words)) ⌝ }
+// The set is within `all`, has none of the union of those before it, and begins after `first`.
+fn may_follow(set: Timestamp, all: Timestamp, union: Timestamp, first: usize) -> bool
+    ensures { λ r. ⌜ ((n : ℕ) → setOf (all .words) ≡ upTo n → r ≡ follows n (setOf (union .words)) first (setOf (set .words))) ⌝ }
 {
-    if !set.within(Timestamp::up_to(n)) {
+    if !set.within(all) {
         return false;
     }
     if !set.disjoint(union) {
@@ -150,11 +172,13 @@ fn branches_legal(
     requires { ⌜ Valid (now src) (now tape) lo hi × (n ≤ 999) ⌝ }
     ensures { λ r. ⌜ ((f : Forest) → Tape (now (src .entry)) (now (tape .entry)) lo hi f → r ≡ judged n (setOf (times .words)) none 0 0 end f) ⌝ }
 {
+    let all = Timestamp::up_to(n);
     let mut p = lo;
     let mut count = 0usize;
     let mut union = Timestamp::empty();
     let mut first = 0usize;
-    let mut marks = [0u32; 1000];
+    let mut marks = [0u16; 1000];
+    let mut seen = [0u64; 256];
     while p < hi {
         let v = view_at(tape, p);
         if v.kind != 2 {
@@ -164,14 +188,15 @@ fn branches_legal(
         if !b.ok {
             return false;
         }
-        if !may_follow(b.stamp, n, union, first) {
+        if !may_follow(b.stamp, all, union, first) {
             return false;
         }
-        let m = mark(src, tape, p + 1, v.next);
-        if !content_legal(src, tape, lo, p, p + 1, v.next, &marks, m) {
+        let m = mark(src, tape, p + 1, v.next) as u16;
+        if !content_legal(src, tape, lo, p, p + 1, v.next, &marks, &seen, m) {
             return false;
         }
         marks[count] = m;
+        set_mark(&mut seen, m);
         union = union.union(b.stamp);
         first = b.stamp.first();
         count += 1;

@@ -72,13 +72,9 @@ pub fn is_sole(tape: &[u32], lo: usize, hi: usize) -> bool
 }
 
 // The set may be that of a `T` in an element of the versions `times`.
-fn may_stand(set: Timestamp, n: usize, times: Timestamp) -> bool
-    requires { ⌜ n ≤ 999 ⌝ }
-    ensures { λ r. ⌜ r ≡ stands n (setOf (times .words)) (setOf (set .words)) ⌝ }
+fn may_stand(set: Timestamp, times: Timestamp) -> bool
+    ensures { λ r. ⌜ ((n : ℕ) → Only n (setOf (times .words)) → r ≡ stands n (setOf (times .words)) (setOf (set .words))) ⌝ }
 {
-    if !set.within(Timestamp::up_to(n)) {
-        return false;
-    }
     if !set.within(times) {
         return false;
     }
@@ -86,23 +82,24 @@ fn may_stand(set: Timestamp, n: usize, times: Timestamp) -> bool
 }
 
 // The set with the text src[a..e], if it may be that of a `T` in an element of the versions `times`.
-fn times_fit(src: &[u8], a: usize, e: usize, n: usize, times: Timestamp) -> Parsed
-    requires { ⌜ (a ≤ e) × (e ≤ length (now src)) × (n ≤ 999) × Only n (setOf (times .words)) ⌝ }
-    ensures { λ r. ⌜ TimesRead n (setOf (times .words)) (slice a e (now (src .entry))) r ⌝ }
+fn times_fit(src: &[u8], a: usize, e: usize, times: Timestamp) -> Parsed
+    requires { ⌜ (a ≤ e) × (e ≤ length (now src)) ⌝ }
+    ensures { λ r. ⌜ ((n : ℕ) → n ≤ 999 → Only n (setOf (times .words)) → TimesRead n (setOf (times .words)) (slice a e (now (src .entry))) r) ⌝ }
 {
     let read = times_at(src, a, e);
     if !read.ok {
         return read;
     }
     let set = read.stamp;
-    let ok = may_stand(set, n, times);
+    let ok = may_stand(set, times);
     Parsed { ok, stamp: set }
 }
 
 // The set of the sibling p, in an element of the versions `times`: these if it is bare, or that of the `T`.
-fn own_times(src: &[u8], tape: &[u32], p: usize, n: usize, times: Timestamp) -> Parsed
-    requires { ⌜ (p < nextAt (now tape) p) × Valid (now src) (now tape) p (nextAt (now tape) p) × (n ≤ 999) × Only n (setOf (times .words)) ⌝ }
-    ensures { λ r. ⌜ ((hi : ℕ) (f : Forest) → p < hi → Tape (now (src .entry)) (now (tape .entry)) p hi f → OwnRead n (setOf (times .words)) f r) ⌝ }
+fn own_times(src: &[u8], tape: &[u32], p: usize, times: Timestamp) -> Parsed
+    requires { ⌜ (p < nextAt (now tape) p) × Valid (now src) (now tape) p (nextAt (now tape) p) ⌝ }
+    ensures { λ r. ⌜ ((n hi : ℕ) (f : Forest) → n ≤ 999 → Only n (setOf (times .words)) → p < hi → Tape (now (src .entry)) (now (tape .entry)) p hi f
+        → OwnRead n (setOf (times .words)) f r) ⌝ }
 {
     let v = view_at(tape, p);
     if v.kind != 2 {
@@ -117,7 +114,7 @@ fn own_times(src: &[u8], tape: &[u32], p: usize, n: usize, times: Timestamp) -> 
             stamp: times,
         };
     }
-    times_fit(src, v.start, v.end, n, times)
+    times_fit(src, v.start, v.end, times)
 }
 
 // The element e, in one at the place, comes after the element `last` by its label; no element is before it if `last` is hi.
@@ -193,7 +190,7 @@ pub fn siblings_legal(
     let mut p = lo;
     let mut last = hi;
     while p < hi {
-        let own = own_times(src, tape, p, n, times);
+        let own = own_times(src, tape, p, times);
         if !own.ok {
             return false;
         }

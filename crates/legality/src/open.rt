@@ -146,7 +146,7 @@ fn judge(text: &[u8], table: &[u32], paths: usize, src: &[u8], tape: &[u32], hi:
     requires { ⌜ Tabled (now text) (now table) paths × ReadOn (now src) (now tape) hi ⌝ }
     ensures { λ r. ⌜ Opens (now (text .entry)) (now (table .entry)) paths (now (src .entry)) (now (tape .entry)) r ⌝ }
 {
-    if !spelled(src) {
+    if !spelled(src, tape, hi) {
         return Opened::Illegal;
     }
     let n = legal_whole(text, table, paths, src, tape, hi);

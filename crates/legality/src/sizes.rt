@@ -1,63 +1,87 @@
 // The sizes of every version in one walk: what a `T` holds itself, other `T`s apart, counts for each of its versions.
-use crate::times::times_at;
-use timestamp::Timestamp;
 use xml::compare::same_bytes;
 use xml::compare::text_len;
 use xml::tape::view_at;
 ghost use mathlib.Core.Path.{_≡_};
 ghost use mathlib.Core.Bool.{true};
-ghost use Prim.Native.Nat.{ℕ, _+_, _^_, _<_, _≤_, min};
-ghost use lib.ListN.{length, getD};
+ghost use Prim.Native.Nat.{_+_, _<_, _≤_};
+ghost use lib.ListN.{length};
 ghost use lib.Seq.{slice};
 ghost use Rattle.xml.specs.Bytes.{all};
 ghost use Rattle.xml.specs.Forest.{Forest};
 ghost use Rattle.xml.specs.Tape.{nextAt, Tape};
 ghost use Rattle.timestamp.specs.Times.{upFrom};
-ghost use Rattle.timestamp.specs.Set.{setOf};
+ghost use Rattle.timestamp.specs.Parse.{numbersIn};
+ghost use Rattle.timestamp.specs.Reading.{startAt};
 ghost use Rattle.versions.specs.Walk.{allSmall};
 ghost use Rattle.versions.specs.Sizes.{one as counted, whenIn};
 ghost use Rattle.versions.specs.Grown.{Cells, Grown, inRun};
 ghost use Rattle.legality.specs.Measured.{owned, Room, Measured};
+ghost use Rattle.legality.specs.Raised.{Readable};
 ghost use Rattle.versions.specs.Small.{LegalInside, isSmall};
 
-// What stands in no `T` of some nodes: its nodes and its written bytes. Or the walk has stopped, at an element deeper than it may go, at
-// a `T` straight in a `T`, or at one whose text is that of no set.
+// What stands in no `T` of some nodes: its nodes and its written bytes. Or the walk has stopped, at an element deeper than it may go or at
+// a `T` straight in a `T`.
 pub struct Own {
     pub nodes: u32,
     pub bytes: u32,
     pub stopped: bool,
 }
 
-fn least(a: usize, b: usize) -> usize
-    ensures { λ r. ⌜ r ≡ min a b ⌝ }
-{
-    if a < b { a } else { b }
-}
-
-// Adds x to the cells lo up to end.
-fn raise_run(cells: &mut [u32], lo: usize, end: usize, x: u32)
-    requires { ⌜ Cells (now cells) lo x × (1 ≤ lo) × (lo ≤ end) × (end ≤ 1000) ⌝ }
-    ensures { λ r. ⌜ Grown (now (cells .entry)) (now (cells .exit)) (λ v. whenIn (inRun lo end v) x) ⌝ }
+// Adds x to the nodes and y to the bytes of the versions lo up to end.
+fn raise_run(nodes: &mut [u32], bytes: &mut [u32], lo: usize, end: usize, x: u32, y: u32)
+    requires { ⌜ Cells (now nodes) lo x × Cells (now bytes) lo y × (1 ≤ lo) × (lo ≤ end) × (end ≤ 1000) ⌝ }
+    ensures { λ r. ⌜ Grown (now (nodes .entry)) (now (nodes .exit)) (λ v. whenIn (inRun lo end v) x)
+        × Grown (now (bytes .entry)) (now (bytes .exit)) (λ v. whenIn (inRun lo end v) y) ⌝ }
 {
     let mut v = lo;
     while v < end {
-        cells[v] += x;
+        nodes[v] += x;
+        bytes[v] += y;
         v += 1;
     }
 }
 
-// Adds x to the cells of the set's versions, from run to run.
-fn raise(set: Timestamp, cells: &mut [u32], x: u32)
-    requires { ⌜ Cells (now cells) 1 x ⌝ }
-    ensures { λ r. ⌜ Grown (now (cells .entry)) (now (cells .exit)) (λ v. whenIn (setOf (set .words) v) x) ⌝ }
+// Adds x and y to those of the versions lo to n; of n alone where lo is 0.
+fn raise_span(nodes: &mut [u32], bytes: &mut [u32], lo: usize, n: usize, x: u32, y: u32)
+    requires { ⌜ Cells (now nodes) (startAt lo n) x × Cells (now bytes) (startAt lo n) y × (1 ≤ startAt lo n) × (startAt lo n ≤ n + 1) × (n + 1 ≤ 1000) ⌝ }
+    ensures { λ r. ⌜ Grown (now (nodes .entry)) (now (nodes .exit)) (λ v. whenIn (inRun (startAt lo n) (n + 1) v) x)
+        × Grown (now (bytes .entry)) (now (bytes .exit)) (λ v. whenIn (inRun (startAt lo n) (n + 1) v) y) ⌝ }
 {
-    let gaps = set.complement();
-    let mut lo = set.next(1);
-    while lo < 1000 {
-        let end = least(gaps.next(lo), 1000);
-        raise_run(cells, lo, end, x);
-        lo = set.next(end);
+    if lo == 0 {
+        nodes[n] += x;
+        bytes[n] += y;
+        return;
     }
+    raise_run(nodes, bytes, lo, n + 1, x, y);
+}
+
+// Adds x and y to those of the versions in the set with the text src[a..e], from run to run.
+fn raise(src: &[u8], a: usize, e: usize, nodes: &mut [u32], bytes: &mut [u32], x: u32, y: u32)
+    requires { ⌜ Readable (slice a e (now src)) × (a ≤ e) × (e ≤ length (now src)) × Cells (now nodes) 1 x × Cells (now bytes) 1 y ⌝ }
+    ensures { λ r. ⌜ Grown (now (nodes .entry)) (now (nodes .exit)) (λ v. whenIn (numbersIn (slice a e (now (src .entry))) v) x)
+        × Grown (now (bytes .entry)) (now (bytes .exit)) (λ v. whenIn (numbersIn (slice a e (now (src .entry))) v) y) ⌝ }
+{
+    let mut at = a;
+    let mut lo = 0;
+    let mut n = 0;
+    while at < e {
+        let b = src[at];
+        at += 1;
+        if b'0' <= b {
+            n = n * 10 + ((b - 48) as usize);
+            continue;
+        }
+        if b == b',' {
+            raise_span(nodes, bytes, lo, n, x, y);
+            lo = 0;
+            n = 0;
+            continue;
+        }
+        lo = n;
+        n = 0;
+    }
+    raise_span(nodes, bytes, lo, n, x, y);
 }
 
 fn sized(nodes: u32, bytes: u32) -> Own
@@ -124,16 +148,11 @@ fn add_node(
     if timed {
         return halted();
     }
-    let t = times_at(src, v.start, v.end);
-    if !t.ok {
-        return halted();
-    }
     let k = add_sizes(src, tape, p + 1, v.next, left, true, nodes, bytes);
     if k.stopped {
         return k;
     }
-    raise(t.stamp, nodes, k.nodes);
-    raise(t.stamp, bytes, k.bytes);
+    raise(src, v.start, v.end, nodes, bytes, k.nodes, k.bytes);
     sized(0, 0)
 }
 

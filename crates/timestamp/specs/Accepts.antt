@@ -1,5 +1,5 @@
 -- The text of ascending runs is accepted, and read as their set.
-use Prim.Native.Nat.{ℕ, _+_, _-_, _*_, _/_, _%_, _≤_, _<_}
+use Prim.Native.Nat.{ℕ, _+_, _-_, _*_, _≤_, _<_}
 use mathlib.Core.Path.{_≡_, refl, sym, ap, ap₂, _∙_, fun-ext}
 use mathlib.Core.List.{List, [], _∷_, _++_}
 use mathlib.Core.Bool.{Bool, true, _&&_, _||_, or-assoc, or-false}
@@ -11,7 +11,7 @@ use Rattle.xml.specs.Bytes.{isDigit, within, any}
 use Rattle.timestamp.specs.TimesLaws.{inRun}
 use Rattle.timestamp.specs.Set.{none, joined, between}
 use Rattle.timestamp.specs.Runs.{Asc, inRuns}
-use Rattle.timestamp.specs.Digits.{digit, digits, runText, tailText, text}
+use Rattle.timestamp.specs.Digits.{digit, digits, by-digits, runText, tailText, text}
 use Rattle.timestamp.specs.Parse.{accepted}
 use Rattle.timestamp.specs.Reading.{St, st, pickN, more, digitIn, dashIn, closeIn, steps, setIn, readIn, step-digit, step-dash, step-comma}
 
@@ -38,31 +38,8 @@ module _ (s : ℕ → Bool) (p lo : ℕ) where
       more-is (yes q) = rw (lt-ltb n 100 hn, lt-ltb 0 n q)
       more-is (no q) = rw (lt-ltb n 100 hn, le-ltb 0 n (omega arith)) (lt-ltb 48 (48 + d) (omega arith))
 
-  digits-steps : (m : ℕ) (l : List ℕ) → 0 < m → m < 1000 → steps (st s p lo 0) (digits m ++ l) ≡ steps (st s p lo m) l
-  unfolding digits
-  digits-steps m l z h = go (decLt m 10) (decLt m 100)
-    where
-      one : 0 * 10 + m ≡ m
-      one = omega arith
-
-      two : (0 * 10 + m / 10) * 10 + m % 10 ≡ m
-      two = omega arith
-
-      three : ((0 * 10 + m / 100) * 10 + m / 10 % 10) * 10 + m % 10 ≡ m
-      three = omega arith
-
-      go : Dec (m < 10) → Dec (m < 100) → steps (st s p lo 0) (digits m ++ l) ≡ steps (st s p lo m) l
-      go (yes q) r = rw (lt-ltb m 10 q) (digit-step 0 m l (omega arith) (omega arith) (omega arith) ∙ ap (λ (x : ℕ). steps (st s p lo x) l) one)
-      go (no q) (yes r) =
-          rw (le-ltb m 10 (omega arith), lt-ltb m 100 r)
-          (digit-step 0 (m / 10) (digit (m % 10) ∷ l) (omega arith) (omega arith) (omega arith)
-          ∙ digit-step (0 * 10 + m / 10) (m % 10) l (omega arith) (omega arith) (omega arith) ∙ ap (λ (x : ℕ). steps (st s p lo x) l) two)
-      go (no q) (no r) =
-          rw (le-ltb m 10 (omega arith), le-ltb m 100 (omega arith))
-          (digit-step 0 (m / 100) (digit (m / 10 % 10) ∷ digit (m % 10) ∷ l) (omega arith) (omega arith) (omega arith)
-          ∙ digit-step (0 * 10 + m / 100) (m / 10 % 10) (digit (m % 10) ∷ l) (omega arith) (omega arith) (omega arith)
-          ∙ digit-step ((0 * 10 + m / 100) * 10 + m / 10 % 10) (m % 10) l (omega arith) (omega arith) (omega arith)
-          ∙ ap (λ (x : ℕ). steps (st s p lo x) l) three)
+  pub digits-steps : (m : ℕ) (l : List ℕ) → 0 < m → m < 1000 → steps (st s p lo 0) (digits m ++ l) ≡ steps (st s p lo m) l
+  digits-steps = by-digits (λ n. steps (st s p lo n)) digit-step
 
 module _ (s : ℕ → Bool) (p lo hi : ℕ) (hp : p < lo) (hl : lo ≤ hi) (hh : hi < 1000) where
   run-steps : (l : List ℕ) → steps (st s p 0 0) (runText lo hi l) ≡ steps (st s p (startOf lo hi) hi) l

@@ -1,5 +1,5 @@
 -- A number of 1 to 999 in decimal by its size, and the text of runs with what comes after.
-use Prim.Native.Nat.{ℕ, _+_, _/_, _%_, _≤_, _<_}
+use Prim.Native.Nat.{ℕ, _+_, _*_, _/_, _%_, _≤_, _<_}
 use mathlib.Core.Path.{_≡_, refl, sym, ap, ap₂, _∙_}
 use mathlib.Core.List.{List, [], _∷_, _++_, map, append-assoc, append-nil}
 use mathlib.Core.Bool.{Bool, true, false}
@@ -45,6 +45,34 @@ digits-length m = go (ltb m 10) (ltb m 100)
     go true c = (omega arith, omega arith)
     go false true = (omega arith, omega arith)
     go false false = (omega arith, omega arith)
+
+-- what goes on by a number's digits goes on by the number
+module _ {A : Type 0} (f : ℕ → Bytes → A) (on : (n d : ℕ) (l : Bytes) → n < 100 → d < 10 → 0 < n + d → f n (digit d ∷ l) ≡ f (n * 10 + d) l) where
+  pub by-digits : (m : ℕ) (l : Bytes) → 0 < m → m < 1000 → f 0 (digits m ++ l) ≡ f m l
+  unfolding digits
+  by-digits m l z h = go (decLt m 10) (decLt m 100)
+    where
+      one : 0 * 10 + m ≡ m
+      one = omega arith
+
+      two : (0 * 10 + m / 10) * 10 + m % 10 ≡ m
+      two = omega arith
+
+      three : ((0 * 10 + m / 100) * 10 + m / 10 % 10) * 10 + m % 10 ≡ m
+      three = omega arith
+
+      go : Dec (m < 10) → Dec (m < 100) → f 0 (digits m ++ l) ≡ f m l
+      go (yes q) r = rw (lt-ltb m 10 q) (on 0 m l (omega arith) (omega arith) (omega arith) ∙ ap (λ (x : ℕ). f x l) one)
+      go (no q) (yes r) =
+          rw (le-ltb m 10 (omega arith), lt-ltb m 100 r)
+          (on 0 (m / 10) (digit (m % 10) ∷ l) (omega arith) (omega arith) (omega arith)
+          ∙ on (0 * 10 + m / 10) (m % 10) l (omega arith) (omega arith) (omega arith) ∙ ap (λ (x : ℕ). f x l) two)
+      go (no q) (no r) =
+          rw (le-ltb m 10 (omega arith), le-ltb m 100 (omega arith))
+          (on 0 (m / 100) (digit (m / 10 % 10) ∷ digit (m % 10) ∷ l) (omega arith) (omega arith) (omega arith)
+          ∙ on (0 * 10 + m / 100) (m / 10 % 10) (digit (m % 10) ∷ l) (omega arith) (omega arith) (omega arith)
+          ∙ on ((0 * 10 + m / 100) * 10 + m / 10 % 10) (m % 10) l (omega arith) (omega arith) (omega arith)
+          ∙ ap (λ (x : ℕ). f x l) three)
 
 -- ---- a run, and then more
 unfoldable pub runText : ℕ → ℕ → Bytes → Bytes

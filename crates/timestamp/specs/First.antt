@@ -9,10 +9,11 @@ use native.Mathlib.Nat.{pow-suc, div-one}
 use lib.Count.{trailingZeros, under}
 use lib.Dec.{eqb}
 use lib.ListN.{getD}
-use lib.Pow.{shr-shr, shr-lt}
+use lib.Pow.{shr-shr}
 use Rattle.xml.specs.Truth.{bool-by}
 use Rattle.timestamp.specs.Bits.{bit, bit-zero, bit-suc, bit-none}
-use Rattle.timestamp.specs.Set.{setOf, firstIn}
+use Rattle.timestamp.specs.Set.{setOf, outside, firstIn}
+use Rattle.timestamp.specs.Words.{notAt, not-bit}
 
 module _ (s : ℕ → Bool) where
   -- the first of n numbers, or the number after them
@@ -92,39 +93,41 @@ bit-shr : (x j i : ℕ) → bit (x / 2 ^ j) i ≡ bit x (j + i)
 unfolding bit
 bit-shr x j i = ap (λ (n : ℕ). eqb (n % 2) 1) (shr-shr x j i)
 
--- ---- number v = k * 64 + j is bit j of word k
-module _ (w : List ℕ) (v k j : ℕ) (e : v ≡ k * 64 + j) (hj : j < 64) (hk : k < 16) where
-  word-bit : (u i : ℕ) → u ≡ v + i → j + i < 64 → setOf w u ≡ bit (getD w k 0 / 2 ^ j) i
-  unfolding setOf
+-- ---- number v = k * 64 + j is bit j of word k, which is x; r is the rest of it
+module _ {s : ℕ → Bool} (x v k j r : ℕ) (is : (u : ℕ) → u / 64 ≡ k → s u ≡ bit x (u % 64)) (e : v ≡ k * 64 + j) (hj : j < 64) (hk : k < 16) (d : r ≡ x / 2 ^ j) where
+  word-bit : (u i : ℕ) → u ≡ v + i → j + i < 64 → s u ≡ bit r i
   word-bit u i e′ h =
-      let d : u / 64 ≡ k = omega arith in
+      let d′ : u / 64 ≡ k = omega arith in
       let m : u % 64 ≡ j + i = omega arith in
-      rw (d, m) (sym (bit-shr (getD w k 0) j i))
+      is u d′ ∙ ap (bit x) m ∙ sym (bit-shr x j i) ∙ ap (λ (y : ℕ). bit y i) (sym d)
 
-  -- the rest of a word that is not 0 gives its lowest bit
-  pub word-found : getD w k 0 < 2 ^ 64 → (getD w k 0 / 2 ^ j ≡ 0 → ⊥) → firstIn (1024 - v) (setOf w) v ≡ v + trailingZeros 64 (getD w k 0 / 2 ^ j)
-  word-found hw ne =
-      let x = getD w k 0 / 2 ^ j in
-      let t = trailingZeros 64 x in
-      let b = lowest-in (64 - j) 64 x (omega arith) (omega arith) (shr-lt (64 - j) j (let z : 64 - j + j ≡ 64 = omega arith in rw z hw)) in
-      first-is (setOf w) (1024 - v) v (v + t) (omega arith) (omega (arith, b .0))
-      (λ u l h. word-bit u (u - v) (omega arith) (omega (arith, b .0)) ∙ lowest-out 64 x (u - v) (omega arith))
+  -- a rest that is not 0 gives its lowest bit
+  pub word-found : r < 2 ^ (64 - j) → (r ≡ 0 → ⊥) → firstIn (1024 - v) s v ≡ v + trailingZeros 64 r
+  word-found hr ne =
+      let t = trailingZeros 64 r in
+      let b = lowest-in (64 - j) 64 r (omega arith) (omega arith) hr in
+      first-is s (1024 - v) v (v + t) (omega arith) (omega (arith, b .0))
+      (λ u l h. word-bit u (u - v) (omega arith) (omega (arith, b .0)) ∙ lowest-out 64 r (u - v) (omega arith))
       (λ h. word-bit (v + t) t refl (omega (arith, b .0)) ∙ b .1)
 
   -- one that is 0 is passed
-  pub word-passed : getD w k 0 / 2 ^ j ≡ 0 → firstIn (1024 - v) (setOf w) v ≡ firstIn (1024 - (k + 1) * 64) (setOf w) ((k + 1) * 64)
+  pub word-passed : r ≡ 0 → firstIn (1024 - v) s v ≡ firstIn (1024 - (k + 1) * 64) s ((k + 1) * 64)
   word-passed z =
-      first-pass (setOf w) 1024 v ((k + 1) * 64) (omega arith) (omega arith)
-      (λ u l h. word-bit u (u - v) (omega arith) (omega arith) ∙ ap (λ (x : ℕ). bit x (u - v)) z ∙ bit-none (u - v))
+      first-pass s 1024 v ((k + 1) * 64) (omega arith) (omega arith)
+      (λ u l h. word-bit u (u - v) (omega arith) (omega arith) ∙ ap (λ (y : ℕ). bit y (u - v)) z ∙ bit-none (u - v))
 
 -- the same of whole words
-module _ (w : List ℕ) (k : ℕ) (hk : k < 16) where
-  whole-is : getD w k 0 / 2 ^ 0 ≡ getD w k 0
-  whole-is = div-one (getD w k 0)
+module _ {s : ℕ → Bool} (x k : ℕ) (is : (u : ℕ) → u / 64 ≡ k → s u ≡ bit x (u % 64)) (hk : k < 16) where
+  pub whole-found : x < 2 ^ 64 → (x ≡ 0 → ⊥) → firstIn (1024 - k * 64) s (k * 64) ≡ k * 64 + trailingZeros 64 x
+  whole-found = word-found x (k * 64) k 0 x is (omega arith) (omega arith) hk (sym (div-one x))
 
-  pub whole-found : getD w k 0 < 2 ^ 64 → (getD w k 0 ≡ 0 → ⊥) → firstIn (1024 - k * 64) (setOf w) (k * 64) ≡ k * 64 + trailingZeros 64 (getD w k 0)
-  whole-found hw ne =
-      word-found w (k * 64) k 0 (omega arith) (omega arith) hk hw (λ z. ne (sym whole-is ∙ z)) ∙ ap (λ (x : ℕ). k * 64 + trailingZeros 64 x) whole-is
+  pub whole-passed : x ≡ 0 → firstIn (1024 - k * 64) s (k * 64) ≡ firstIn (1024 - (k + 1) * 64) s ((k + 1) * 64)
+  whole-passed = word-passed x (k * 64) k 0 x is (omega arith) (omega arith) hk (sym (div-one x))
 
-  pub whole-passed : getD w k 0 ≡ 0 → firstIn (1024 - k * 64) (setOf w) (k * 64) ≡ firstIn (1024 - (k + 1) * 64) (setOf w) ((k + 1) * 64)
-  whole-passed z = word-passed w (k * 64) k 0 (omega arith) (omega arith) hk (whole-is ∙ z)
+-- the word of the set, and that of the numbers that it lacks
+pub word-is : (w : List ℕ) (k u : ℕ) → u / 64 ≡ k → setOf w u ≡ bit (getD w k 0) (u % 64)
+unfolding setOf
+word-is w k u e = ap (λ (n : ℕ). bit (getD w n 0) (u % 64)) e
+
+pub gap-is : (w : List ℕ) (k : ℕ) → k < 16 → (u : ℕ) → u / 64 ≡ k → outside (setOf w) u ≡ bit (notAt w k) (u % 64)
+gap-is w k h u e = sym (not-bit w u (omega arith)) ∙ ap (λ (n : ℕ). bit (notAt w n) (u % 64)) e

@@ -13,6 +13,7 @@ pub mod Parse
 pub mod Reading
 pub mod Accepts
 pub mod Sound
+pub mod Numbers
 pub mod Parses
 pub mod Write
 pub mod Written

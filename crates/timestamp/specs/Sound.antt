@@ -41,7 +41,8 @@ unread f g e = cc
 never : (f : ℕ → Bool) → refused ≡ accepted f → ⊥
 never f e = let z : _≡_ {A = ℕ} 0 1 = cc in omega arith
 
-steps-bad : (l : List ℕ) → steps bad l ≡ bad
+-- what is refused stays so
+pub steps-bad : (l : List ℕ) → steps bad l ≡ bad
 unfolding steps stepIn digitIn dashIn closeIn
 steps-bad [] = refl
 steps-bad (b ∷ bs) = ap (λ (x : St). steps x bs) (go (isDigit b) (eqb b 45) (eqb b 44)) ∙ steps-bad bs

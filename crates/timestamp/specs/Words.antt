@@ -2,10 +2,10 @@
 use Prim.Native.Nat.{ℕ, _+_, _-_, _*_, _/_, _%_, _^_, _≤_, _<_, min}
 use mathlib.Core.Path.{_≡_, refl, sym, ap, ap₂, _∙_, fun-ext}
 use mathlib.Core.List.{List}
-use mathlib.Core.Bool.{and-false, and-true, or-false, or-true, Bool, true, false, not, _&&_, _||_, xor}
+use mathlib.Core.Bool.{and-false, and-true, or-assoc, or-false, or-true, Bool, true, false, not, _&&_, _||_, xor}
 use native.Mathlib.Omega.{arith}
 use native.Mathlib.Numerals.{add-one}
-use native.Mathlib.Decide.{decLt, ℕ-discrete}
+use native.Mathlib.Decide.{decLt, decLe, ℕ-discrete}
 use native.Mathlib.Nat.{one-mul, mod-eq-of-lt}
 use lib.Dec.{eqb, leb, ltb, leb·suc-suc}
 use lib.Bits.{bitAnd, bitOr, bitXor}
@@ -62,9 +62,6 @@ notAt a k = bitXor (getD a k 0) (2 ^ 64 - 1)
 abbrev pub maskAt : ℕ → ℕ → ℕ
 maskAt n k = 2 ^ min (n - k * 64) 64 - 1
 
-abbrev pub cutWord : List ℕ → ℕ → ℕ → ℕ
-cutWord a i k = bitAnd (getD a k 0) (maskAt (i + 1) k)
-
 abbrev pub rangeWord : ℕ → ℕ → ℕ → ℕ
 rangeWord lo hi k = bitXor (maskAt (hi + 1) k) (maskAt lo k)
 
@@ -95,21 +92,17 @@ unfolding setOf
 meet-set a b w i la lb p l =
     filled-set (andAt a b) i w _ p l (λ v q. bit-and _ _ _) (λ v q. ap₂ _&&_ (past a la v q) (past b lb v q))
 
-pub outside-set : (a w : List ℕ) (i : ℕ) → Filled (notAt a) i w → 16 ≤ i → setOf w ≡ outside (setOf a)
+-- the bits of the words' complement
+pub not-bit : (a : List ℕ) (v : ℕ) → v / 64 < 16 → bit (notAt a (v / 64)) (v % 64) ≡ outside (setOf a) v
 unfolding setOf
-outside-set a w i p l =
-    filled-set (notAt a) i w _ p l
-    (λ v q. bit-xor (getD a (v / 64) 0) (2 ^ 64 - 1) (v % 64)
+not-bit a v q =
+    bit-xor (getD a (v / 64) 0) (2 ^ 64 - 1) (v % 64)
     ∙ ap (xor (bit (getD a (v / 64) 0) (v % 64))) (bit-ones 64 (v % 64) ∙ lt-ltb (v % 64) 64 (omega arith))
-    ∙ xor-ones (setOf a v) ∙ sym (ap (λ (x : Bool). x && not (setOf a v)) (lt-ltb v 1024 (omega arith))))
-    (λ v q. ap (λ (x : Bool). x && not (setOf a v)) (le-ltb v 1024 (omega arith)))
+    ∙ xor-ones (setOf a v) ∙ sym (ap (λ (x : Bool). x && not (setOf a v)) (lt-ltb v 1024 (omega arith)))
 
-pub cut-set : (a w : List ℕ) (n i : ℕ) → length a ≡ 16 → Filled (cutWord a n) i w → 16 ≤ i → setOf w ≡ cutAt n (setOf a)
-unfolding setOf
-cut-set a w n i la p l =
-    filled-set (cutWord a n) i w _ p l
-    (λ v q. bit-and _ _ _ ∙ ap (_&&_ (bit (getD a (v / 64) 0) (v % 64))) (mask-bit (n + 1) v ∙ ltb-up v n))
-    (λ v q. ap (λ (x : Bool). x && leb v n) (past a la v q))
+pub outside-set : (a w : List ℕ) (i : ℕ) → Filled (notAt a) i w → 16 ≤ i → setOf w ≡ outside (setOf a)
+outside-set a w i p l =
+    filled-set (notAt a) i w _ p l (not-bit a) (λ v q. ap (λ (x : Bool). x && not (setOf a v)) (le-ltb v 1024 (omega arith)))
 
 -- the bits of a range's words
 pub range-bit : (lo hi v : ℕ) → lo ≤ hi + 1 → bit (rangeWord lo hi (v / 64)) (v % 64) ≡ between lo hi v
@@ -123,12 +116,6 @@ range-bit lo hi v le = bit-xor _ _ _ ∙ ap₂ xor (mask-bit (hi + 1) v ∙ ltb-
     go : Dec (v < lo) → xor (leb v hi) (ltb v lo) ≡ (leb lo v && leb v hi)
     go (yes q) = rw (lt-ltb v lo q, lt-leb lo v q, le-leb v hi (omega arith))
     go (no q) = rw (le-ltb v lo (omega arith), le-leb lo v (omega arith)) (not-self (leb v hi))
-
-pub range-set : (w : List ℕ) (lo hi i : ℕ) → lo ≤ hi + 1 → hi < 1024 → Filled (rangeWord lo hi) i w → 16 ≤ i → setOf w ≡ between lo hi
-range-set w lo hi i le hn p l =
-    filled-set (rangeWord lo hi) i w _ p l
-    (λ v q. range-bit lo hi v le)
-    (λ v q. ap (_&&_ (leb lo v)) (lt-leb v hi (omega arith)) ∙ and-false (leb lo v))
 
 pub with-set : (a : List ℕ) (v : ℕ) → length a ≡ 16 → v < 1024
     → setOf (set a (v / 64) (bitOr ((1 * 2 ^ (v % 64)) % 2 ^ 64) (getD a (v / 64) 0))) ≡ adding v (setOf a)
@@ -159,59 +146,56 @@ pub zeros-none : setOf (replicate 16 0) ≡ none
 zeros-none =
     filled-set (λ k. 0) 16 (replicate 16 0) none (record { size = refl; are = λ k l. getD-replicate 16 k 0 0 l }) (omega arith) (λ v q. bit-none _) (λ v q. refl)
 
--- ---- a loop that puts a range into sixteen words
--- the words w are those of a with the numbers lo to hi that stand below word k
-pub record Partly (a : List ℕ) (lo hi k : ℕ) (w : List ℕ) : Type 0 where
-  pub size : length w ≡ 16
-  pub are : (v : ℕ) → setOf w v ≡ (setOf a v || (between lo hi v && ltb v (k * 64)))
-
-or-all : (x b : Bool) → ((x || (b && false)) || b) ≡ (x || (b && true))
-or-all true b = refl
-or-all false true = refl
-or-all false false = refl
-
--- at the word of lo nothing is put yet
-pub partly-none : (a : List ℕ) (lo hi : ℕ) → length a ≡ 16 → Partly a lo hi (lo / 64) a
-partly-none a lo hi e = record { size = e; are = λ v. sym (or-false (setOf a v)) ∙ ap (_||_ (setOf a v)) (sym (go v (decLt v lo))) }
-  where
-    go : (v : ℕ) → Dec (v < lo) → (between lo hi v && ltb v (lo / 64 * 64)) ≡ false
-    go v (yes q) = rw (lt-leb lo v q)
-    go v (no q) = rw (le-ltb v (lo / 64 * 64) (omega arith)) (and-false (between lo hi v))
-
--- one word more
-pub partly-more : (a w : List ℕ) (lo hi k : ℕ) → lo ≤ hi → k < 16 → Partly a lo hi k w
-    → Partly a lo hi (k + 1) (set w k (bitOr (getD w k 0) (rangeWord lo hi k)))
+-- ---- a range put into sixteen words
+-- one that stands in one word
+pub word-set : (a : List ℕ) (lo hi : ℕ) → length a ≡ 16 → lo ≤ hi → hi < 1024 → lo / 64 ≡ hi / 64
+    → setOf (set a (lo / 64) (bitOr (getD a (lo / 64) 0) (rangeWord lo hi (lo / 64)))) ≡ joined (setOf a) (between lo hi)
 unfolding setOf
-partly-more a w lo hi k le h p =
-    record { size = length-set w k word ∙ p .size; are = λ v. go v (ℕ-discrete (v / 64) k) }
+word-set a lo hi la le h e = fun-ext (λ v. go v (ℕ-discrete (v / 64) (lo / 64)))
   where
     word : ℕ
-    word = bitOr (getD w k 0) (rangeWord lo hi k)
+    word = bitOr (getD a (lo / 64) 0) (rangeWord lo hi (lo / 64))
 
-    below : (v : ℕ) → (v / 64 ≡ k → ⊥) → Dec (v < k * 64) → ltb v (k * 64) ≡ ltb v ((k + 1) * 64)
-    below v n (yes q) = lt-ltb v (k * 64) q ∙ sym (lt-ltb v ((k + 1) * 64) (omega arith))
-    below v n (no q) = le-ltb v (k * 64) (omega arith) ∙ sym (le-ltb v ((k + 1) * 64) (omega arith))
+    out : (v : ℕ) → (v / 64 ≡ lo / 64 → ⊥) → Dec (v < lo) → between lo hi v ≡ false
+    out v n (yes q) = rw (lt-leb lo v q)
+    out v n (no q) = rw (lt-leb v hi (omega arith)) (and-false (leb lo v))
 
-    go : (v : ℕ) → Dec (v / 64 ≡ k) → setOf (set w k word) v ≡ (setOf a v || (between lo hi v && ltb v ((k + 1) * 64)))
-    go v (yes e) =
-        ap (λ (x : ℕ). bit x (v % 64)) (ap (λ (n : ℕ). getD (set w k word) n 0) e ∙ getD-set-same w k word 0 (omega (arith, p .size)))
-        ∙ bit-or (getD w k 0) (rangeWord lo hi k) (v % 64)
-        ∙ ap₂ _||_
-        (ap (λ (n : ℕ). bit (getD w n 0) (v % 64)) (sym e) ∙ p .are v ∙ ap (λ (x : Bool). setOf a v || (between lo hi v && x)) (le-ltb v (k * 64) (omega arith)))
-        (ap (λ (n : ℕ). bit (rangeWord lo hi n) (v % 64)) (sym e) ∙ range-bit lo hi v (omega arith))
-        ∙ or-all (setOf a v) (between lo hi v)
-        ∙ ap (λ (x : Bool). setOf a v || (between lo hi v && x)) (sym (lt-ltb v ((k + 1) * 64) (omega arith)))
+    go : (v : ℕ) → Dec (v / 64 ≡ lo / 64) → setOf (set a (lo / 64) word) v ≡ (setOf a v || between lo hi v)
+    go v (yes q) =
+        ap (λ (x : ℕ). bit x (v % 64)) (ap (λ (n : ℕ). getD (set a (lo / 64) word) n 0) q ∙ getD-set-same a (lo / 64) word 0 (omega arith))
+        ∙ ap (λ (n : ℕ). bit (bitOr (getD a n 0) (rangeWord lo hi n)) (v % 64)) (sym q)
+        ∙ bit-or _ _ _ ∙ ap (_||_ (setOf a v)) (range-bit lo hi v (omega arith))
     go v (no n) =
-        ap (λ (x : ℕ). bit x (v % 64)) (getD-set-other w k (v / 64) word 0 n)
-        ∙ p .are v ∙ ap (λ (x : Bool). setOf a v || (between lo hi v && x)) (below v n (decLt v (k * 64)))
+        ap (λ (x : ℕ). bit x (v % 64)) (getD-set-other a (lo / 64) (v / 64) word 0 n)
+        ∙ sym (ap (_||_ (setOf a v)) (out v n (decLt v lo)) ∙ or-false (setOf a v))
 
--- past the word of hi all of them are put
-pub partly-all : (a w : List ℕ) (lo hi k : ℕ) → hi / 64 < k → Partly a lo hi k w → setOf w ≡ joined (setOf a) (between lo hi)
-partly-all a w lo hi k h p = fun-ext (λ v. p .are v ∙ ap (_||_ (setOf a v)) (go v (decLt hi v)))
+-- one that stands in several words: in the first, in those between, in the last
+pub joined-parts : (s : ℕ → Bool) (lo hi : ℕ) → lo / 64 < hi / 64
+    → joined (joined (joined s (between lo (lo / 64 * 64 + 63))) (between ((lo / 64 + 1) * 64) (hi / 64 * 64 - 1))) (between (hi / 64 * 64) hi) ≡ joined s (between lo hi)
+joined-parts s lo hi h =
+    fun-ext (λ v.
+    or-assoc (s v || between lo (lo / 64 * 64 + 63) v) (between ((lo / 64 + 1) * 64) (hi / 64 * 64 - 1) v) (between (hi / 64 * 64) hi v)
+    ∙ or-assoc (s v) (between lo (lo / 64 * 64 + 63) v) (between ((lo / 64 + 1) * 64) (hi / 64 * 64 - 1) v || between (hi / 64 * 64) hi v)
+    ∙ ap (_||_ (s v)) (go v (lo / 64 * 64 + 63) ((lo / 64 + 1) * 64) (hi / 64 * 64 - 1) (hi / 64 * 64) (omega arith) (omega arith) (omega arith) (omega arith) (omega arith)
+    (decLt v lo) (decLt (lo / 64 * 64 + 63) v) (decLt (hi / 64 * 64 - 1) v) (decLt hi v)))
   where
-    go : (v : ℕ) → Dec (hi < v) → (between lo hi v && ltb v (k * 64)) ≡ between lo hi v
-    go v (yes q) = rw (lt-leb v hi q, and-false (leb lo v))
-    go v (no q) = rw (lt-ltb v (k * 64) (omega arith)) (and-true (between lo hi v))
+    go : (v a b c d : ℕ) → lo ≤ a → b ≡ a + 1 → b ≤ d → d ≡ c + 1 → d ≤ hi → Dec (v < lo) → Dec (a < v) → Dec (c < v) → Dec (hi < v)
+        → (between lo a v || (between b c v || between d hi v)) ≡ between lo hi v
+    go v a b c d i j k l m (yes q) x y z = rw (lt-leb lo v q, lt-leb b v (omega arith), lt-leb d v (omega arith))
+    go v a b c d i j k l m (no q) (no x) y z = rw (le-leb lo v (omega arith), le-leb v a (omega arith), le-leb v hi (omega arith))
+    go v a b c d i j k l m (no q) (yes x) (no y) z = rw (le-leb lo v (omega arith), lt-leb v a x, le-leb b v (omega arith), le-leb v c (omega arith), le-leb v hi (omega arith))
+    go v a b c d i j k l m (no q) (yes x) (yes y) (no z) =
+        rw (le-leb lo v (omega arith), lt-leb v a x, le-leb b v (omega arith), lt-leb v c y, le-leb d v (omega arith), le-leb v hi (omega arith))
+    go v a b c d i j k l m (no q) (yes x) (yes y) (yes z) =
+        rw (le-leb lo v (omega arith), lt-leb v a x, le-leb b v (omega arith), lt-leb v c y, le-leb d v (omega arith), lt-leb v hi z)
+
+-- one whose end is before its start
+pub between-none : (lo hi : ℕ) → hi < lo → none ≡ between lo hi
+between-none lo hi h = fun-ext (λ v. go v (decLt v lo))
+  where
+    go : (v : ℕ) → Dec (v < lo) → false ≡ between lo hi v
+    go v (yes q) = rw (lt-leb lo v q)
+    go v (no q) = rw (lt-leb v hi (omega arith)) (sym (and-false (leb lo v)))
 
 -- a set with one number more is it with the range of that number
 pub adding-joined : (s : ℕ → Bool) (v : ℕ) → adding v s ≡ joined s (between v v)
@@ -221,3 +205,79 @@ adding-joined s v = fun-ext (λ u. go u (ℕ-discrete u v) (decLt u v))
     go u (yes q) d = rw (eq-eqb u v q, le-leb v u (omega arith), le-leb u v (omega arith)) (sym (or-true (s u)))
     go u (no n) (yes q) = rw (ne-eqb u v n, lt-leb v u q) (sym (or-false (s u)))
     go u (no n) (no q) = rw (ne-eqb u v n, lt-leb u v (omega arith), and-false (leb v u)) (sym (or-false (s u)))
+
+-- ---- words set to one value
+-- the words w are those of a, but those from `from` to before `to` are x
+pub record Stored (a : List ℕ) (from to x : ℕ) (w : List ℕ) : Type 0 where
+  pub size : length w ≡ 16
+  pub below : (n : ℕ) → n < from → getD w n 0 ≡ getD a n 0
+  pub are : (n : ℕ) → from ≤ n → n < to → getD w n 0 ≡ x
+  pub above : (n : ℕ) → to ≤ n → getD w n 0 ≡ getD a n 0
+
+pub stored-none : (a : List ℕ) (from x : ℕ) → length a ≡ 16 → Stored a from from x a
+stored-none a from x e = record { size = e; below = λ n h. refl; are = λ n h l. absurd (omega arith); above = λ n h. refl }
+
+-- one word more
+pub stored-more : (a w : List ℕ) (from to x : ℕ) → from ≤ to → to < 16 → Stored a from to x w → Stored a from (to + 1) x (set w to x)
+stored-more a w from to x h l p =
+    record {
+      size = length-set w to x ∙ p .size;
+      below = λ n q. getD-set-other w to n x 0 (omega arith) ∙ p .below n q;
+      are = λ n q r. go n q r (decLt n to);
+      above = λ n q. getD-set-other w to n x 0 (omega arith) ∙ p .above n (omega arith);
+    }
+  where
+    go : (n : ℕ) → from ≤ n → n < to + 1 → Dec (n < to) → getD (set w to x) n 0 ≡ x
+    go n q r (yes d) = getD-set-other w to n x 0 (omega arith) ∙ p .are n q d
+    go n q r (no d) = let e : n ≡ to = omega arith in rw e (getD-set-same w to x 0 (omega (arith, p .size)))
+
+-- set to all ones, they hold all their numbers
+pub stored-ones : (a w : List ℕ) (from to : ℕ) → from ≤ to → 1 ≤ from → Stored a from to (2 ^ 64 - 1) w → setOf w ≡ joined (setOf a) (between (from * 64) (to * 64 - 1))
+unfolding setOf
+stored-ones a w from to le one p = fun-ext (λ v. go v (decLt (v / 64) from) (decLt (v / 64) to))
+  where
+    other : (v : ℕ) → getD w (v / 64) 0 ≡ getD a (v / 64) 0 → between (from * 64) (to * 64 - 1) v ≡ false → setOf w v ≡ (setOf a v || between (from * 64) (to * 64 - 1) v)
+    other v e f = ap (λ (x : ℕ). bit x (v % 64)) e ∙ sym (ap (_||_ (setOf a v)) f ∙ or-false (setOf a v))
+
+    go : (v : ℕ) → Dec (v / 64 < from) → Dec (v / 64 < to) → setOf w v ≡ (setOf a v || between (from * 64) (to * 64 - 1) v)
+    go v (yes q) d = other v (p .below (v / 64) q) (rw (lt-leb (from * 64) v (omega arith)))
+    go v (no q) (yes r) =
+        ap (λ (x : ℕ). bit x (v % 64)) (p .are (v / 64) (omega arith) r) ∙ bit-ones 64 (v % 64) ∙ lt-ltb (v % 64) 64 (omega arith)
+        ∙ sym (ap (_||_ (setOf a v)) (rw (le-leb (from * 64) v (omega arith), le-leb v (to * 64 - 1) (omega arith))) ∙ or-true (setOf a v))
+    go v (no q) (no r) = other v (p .above (v / 64) (omega arith)) (rw (lt-leb v (to * 64 - 1) (omega arith)) (and-false (leb (from * 64) v)))
+
+-- those after word k set to 0
+pub stored-zeros : (a w : List ℕ) (k : ℕ) → Stored a (k + 1) 16 0 w → setOf w ≡ cutAt (k * 64 + 63) (setOf a)
+unfolding setOf
+stored-zeros a w k p = fun-ext (λ v. go v (decLt k (v / 64)) (decLt (v / 64) 16))
+  where
+    out : (v : ℕ) → k < v / 64 → setOf w v ≡ false → setOf w v ≡ (setOf a v && leb v (k * 64 + 63))
+    out v q e = e ∙ sym (ap (_&&_ (setOf a v)) (lt-leb v (k * 64 + 63) (omega arith)) ∙ and-false (setOf a v))
+
+    go : (v : ℕ) → Dec (k < v / 64) → Dec (v / 64 < 16) → setOf w v ≡ (setOf a v && leb v (k * 64 + 63))
+    go v (yes q) (yes r) = out v q (ap (λ (x : ℕ). bit x (v % 64)) (p .are (v / 64) (omega arith) r) ∙ bit-none (v % 64))
+    go v (yes q) (no r) = out v q (past w (p .size) v (omega arith))
+    go v (no q) d =
+        ap (λ (x : ℕ). bit x (v % 64)) (p .below (v / 64) (omega arith))
+        ∙ sym (ap (_&&_ (setOf a v)) (le-leb v (k * 64 + 63) (omega arith)) ∙ and-true (setOf a v))
+
+-- the word of i masked, and the words after it set to 0
+pub cut-set : (a : List ℕ) (i : ℕ) → length a ≡ 16 → i < 1024
+    → cutAt (i / 64 * 64 + 63) (setOf (set a (i / 64) (bitAnd (getD a (i / 64) 0) (maskAt (i + 1) (i / 64))))) ≡ cutAt i (setOf a)
+unfolding setOf
+cut-set a i la h = fun-ext (λ v. go v (ℕ-discrete (v / 64) (i / 64)))
+  where
+    word : ℕ
+    word = bitAnd (getD a (i / 64) 0) (maskAt (i + 1) (i / 64))
+
+    same : (v : ℕ) → (v / 64 ≡ i / 64 → ⊥) → Dec (v ≤ i) → leb v (i / 64 * 64 + 63) ≡ leb v i
+    same v n (yes q) = le-leb v (i / 64 * 64 + 63) (omega arith) ∙ sym (le-leb v i q)
+    same v n (no q) = lt-leb v (i / 64 * 64 + 63) (omega arith) ∙ sym (lt-leb v i (omega arith))
+
+    go : (v : ℕ) → Dec (v / 64 ≡ i / 64) → (setOf (set a (i / 64) word) v && leb v (i / 64 * 64 + 63)) ≡ (setOf a v && leb v i)
+    go v (yes e) =
+        ap (_&&_ (setOf (set a (i / 64) word) v)) (le-leb v (i / 64 * 64 + 63) (omega arith)) ∙ and-true (setOf (set a (i / 64) word) v)
+        ∙ ap (λ (x : ℕ). bit x (v % 64)) (ap (λ (n : ℕ). getD (set a (i / 64) word) n 0) e ∙ getD-set-same a (i / 64) word 0 (omega arith))
+        ∙ ap (λ (n : ℕ). bit (bitAnd (getD a n 0) (maskAt (i + 1) n)) (v % 64)) (sym e)
+        ∙ bit-and _ _ _ ∙ ap (_&&_ (setOf a v)) (mask-bit (i + 1) v ∙ ltb-up v i)
+    go v (no n) = ap₂ _&&_ (ap (λ (x : ℕ). bit x (v % 64)) (getD-set-other a (i / 64) (v / 64) word 0 n)) (same v n (decLe v i))

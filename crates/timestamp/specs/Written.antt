@@ -44,13 +44,10 @@ written-end {s} {at = at} {to = to} {lo = lo} p h =
     rw (← e) (p .wrote)
 
 -- one run more, from `lo` to before `e`
-module _ {s : ℕ → Bool} {old mid : List ℕ} {at to lo e : ℕ} {g : ℕ → Bool} (p : Written s old at mid to lo) (h : lo < 1000)
-    (gaps : g ≡ outside s) (d : e ≡ min (firstIn (1024 - lo) g lo) 1000) where
-  end-is : e ≡ min (firstIn (1024 - lo) (outside s) lo) 1000
-  end-is = d ∙ ap (λ (t : ℕ → Bool). min (firstIn (1024 - lo) t lo) 1000) gaps
-
+module _ {s : ℕ → Bool} {old mid : List ℕ} {at to lo e : ℕ} (p : Written s old at mid to lo) (h : lo < 1000)
+    (d : e ≡ min (firstIn (1024 - lo) (outside s) lo) 1000) where
   pub past-run : (lo < e) × (e ≤ 1000)
-  past-run = (run-past s lo e h (p .member h) end-is, omega (arith, end-is))
+  past-run = (run-past s lo e h (p .member h) d, omega (arith, d))
 
   pub written-more : {new : List ℕ} {next after : ℕ} → Wrote mid to (part (ltb at to) (lo, e - 1)) after new → next ≡ firstIn (1024 - e) s e → Written s old at new after next
   unfolding following
@@ -64,7 +61,7 @@ module _ {s : ℕ → Bool} {old mid : List ℕ} {at to lo e : ℕ} {g : ℕ →
         wrote = wrote-then (p .wrote) q;
         so-far =
             append-assoc (p .w) (part (ltb at to) (lo, e - 1)) (following (ltb at after) (rest s next))
-            ∙ ap (λ (x : Bytes). p .w ++ x) (ap (λ (x : Bytes). part (ltb at to) (lo, e - 1) ++ x) (ap₂ following later (ap (rest s) n)) ∙ sym (ap (following (ltb at to)) (rest-first s lo e h (p .member h) end-is))) ∙ p .so-far;
+            ∙ ap (λ (x : Bytes). p .w ++ x) (ap (λ (x : Bytes). part (ltb at to) (lo, e - 1) ++ x) (ap₂ following later (ap (rest s) n)) ∙ sym (ap (following (ltb at to)) (rest-first s lo e h (p .member h) d))) ∙ p .so-far;
         short = omega (arith, q .place, k .1, p .short);
         low = omega arith;
         member = λ x. ap s n ∙ first-member s (1024 - e) e (omega arith);

@@ -3,9 +3,10 @@ pub mod text;
 pub mod write;
 
 ghost use mathlib.Core.Path.{_≡_};
-ghost use Prim.Native.Nat.{_+_, _-_, _*_, _^_, _<_, _≤_, min};
+ghost use Prim.Native.Nat.{_+_, _-_, _*_, _/_, _^_, _<_, _≤_, min};
 ghost use lib.ListN.{length};
 ghost use lib.Count.{trailingZeros};
+ghost use Rattle.timestamp.specs.Words.{Stored};
 ghost use Rattle.timestamp.specs.Set.{setOf, none, upTo, between, adding, cutAt, joined, shared, outside, sameSet, isNone, apart, subset, firstIn};
 
 pub struct Timestamp {
@@ -23,19 +24,19 @@ fn low(m: usize) -> u64
     }
 }
 
-// Word k of the set of the numbers below n.
-fn mask(n: usize, k: usize) -> u64
-    requires { ⌜ k < 16 ⌝ }
-    ensures { λ r. ⌜ r ≡ 2 ^ min (n - k * 64) 64 - 1 ⌝ }
-{
-    if n < k * 64 { low(0) } else { low(n - k * 64) }
-}
-
 // The place of a word's lowest bit; 64 where the word is 0.
 fn lowest(w: u64) -> usize
-    ensures { λ r. ⌜ r ≡ trailingZeros 64 w ⌝ }
+    ensures { λ r. ⌜ (r ≡ trailingZeros 64 w) × (w < 2 ^ 64) ⌝ }
 {
     u64::trailing_zeros(w) as usize
+}
+
+// A word's bits from place j on.
+fn rest(w: u64, j: usize) -> u64
+    requires { ⌜ j < 64 ⌝ }
+    ensures { λ r. ⌜ (r ≡ w / 2 ^ j) × (r < 2 ^ (64 - j)) ⌝ }
+{
+    w >> j
 }
 
 // The number v put into the words of a set.
@@ -47,6 +48,39 @@ fn add(words: &mut [u64; 16], v: usize)
     words[k] = (1u64 << (v % 64)) | words[k];
 }
 
+// The words from `from` to before `to` set to w.
+fn store(words: &mut [u64; 16], from: usize, to: usize, w: u64)
+    requires { ⌜ (from ≤ to) × (to ≤ 16) × (length (now words) ≡ 16) ⌝ }
+    ensures { λ r. ⌜ Stored (now (words .entry)) from to w (now (words .exit)) ⌝ }
+{
+    let mut k = from;
+    while k < to {
+        words[k] = w;
+        k += 1;
+    }
+}
+
+// The numbers lo to hi, which stand in one word, put into the words of a set.
+fn fill_word(words: &mut [u64; 16], lo: usize, hi: usize)
+    requires { ⌜ (lo ≤ hi) × (hi < 1024) × (lo / 64 ≡ hi / 64) × (length (now words) ≡ 16) ⌝ }
+    ensures { λ r. ⌜ (setOf (now (words .exit)) ≡ joined (setOf (now (words .entry))) (between lo hi)) × (length (now (words .exit)) ≡ 16) ⌝ }
+{
+    let k = lo / 64;
+    words[k] = words[k] | (low(hi % 64 + 1) ^ low(lo % 64));
+}
+
+// The numbers lo to hi, which stand in several words, put into the words of a set.
+fn fill_words(words: &mut [u64; 16], lo: usize, hi: usize)
+    requires { ⌜ (lo / 64 < hi / 64) × (hi < 1024) × (length (now words) ≡ 16) ⌝ }
+    ensures { λ r. ⌜ (setOf (now (words .exit)) ≡ joined (setOf (now (words .entry))) (between lo hi)) × (length (now (words .exit)) ≡ 16) ⌝ }
+{
+    let first = lo / 64;
+    let last = hi / 64;
+    fill_word(words, lo, first * 64 + 63);
+    store(words, first + 1, last, 0xffff_ffff_ffff_ffff);
+    fill_word(words, last * 64, hi);
+}
+
 // The numbers lo to hi put into the words of a set; only the words that have some of them are touched.
 fn fill(words: &mut [u64; 16], lo: usize, hi: usize)
     requires { ⌜ (lo ≤ hi) × (hi < 1024) × (length (now words) ≡ 16) ⌝ }
@@ -56,11 +90,70 @@ fn fill(words: &mut [u64; 16], lo: usize, hi: usize)
         add(words, lo);
         return;
     }
-    let last = hi / 64;
-    let mut k = lo / 64;
-    while k <= last {
-        words[k] = words[k] | (mask(hi + 1, k) ^ mask(lo, k));
-        k += 1;
+    if lo / 64 == hi / 64 {
+        fill_word(words, lo, hi);
+        return;
+    }
+    fill_words(words, lo, hi);
+}
+
+// The least member in the words from k on, or 1024 where there is none.
+fn first_in(words: &[u64; 16], k: usize) -> usize
+    requires { ⌜ (k ≤ 16) × (length (now words) ≡ 16) ⌝ }
+    ensures { λ r. ⌜ r ≡ firstIn (1024 - k * 64) (setOf (now (words .entry))) (k * 64) ⌝ }
+{
+    let mut i = k;
+    while i < 16 {
+        let w = words[i];
+        if w != 0 {
+            return i * 64 + lowest(w);
+        }
+        i += 1;
+    }
+    1024
+}
+
+// The least number that the words from k on lack, or 1024 where they lack none.
+fn first_gap(words: &[u64; 16], k: usize) -> usize
+    requires { ⌜ (k ≤ 16) × (length (now words) ≡ 16) ⌝ }
+    ensures { λ r. ⌜ r ≡ firstIn (1024 - k * 64) (outside (setOf (now (words .entry)))) (k * 64) ⌝ }
+{
+    let mut i = k;
+    while i < 16 {
+        let w = words[i] ^ 0xffff_ffff_ffff_ffff;
+        if w != 0 {
+            return i * 64 + lowest(w);
+        }
+        i += 1;
+    }
+    1024
+}
+
+// The least member from v on of the set that the words hold, or 1024 where there is none.
+pub fn next_in(words: &[u64; 16], v: usize) -> usize
+    requires { ⌜ (v < 1024) × (length (now words) ≡ 16) ⌝ }
+    ensures { λ r. ⌜ r ≡ firstIn (1024 - v) (setOf (now (words .entry))) v ⌝ }
+{
+    let k = v / 64;
+    let w = rest(words[k], v % 64);
+    if w == 0 {
+        first_in(words, k + 1)
+    } else {
+        v + lowest(w)
+    }
+}
+
+// The least number from v on that the words' set lacks, or 1024 where it lacks none.
+pub fn gap_in(words: &[u64; 16], v: usize) -> usize
+    requires { ⌜ (v < 1024) × (length (now words) ≡ 16) ⌝ }
+    ensures { λ r. ⌜ r ≡ firstIn (1024 - v) (outside (setOf (now (words .entry)))) v ⌝ }
+{
+    let k = v / 64;
+    let w = rest(words[k] ^ 0xffff_ffff_ffff_ffff, v % 64);
+    if w == 0 {
+        first_gap(words, k + 1)
+    } else {
+        v + lowest(w)
     }
 }
 
@@ -76,10 +169,11 @@ impl Timestamp {
         requires { ⌜ (lo ≤ hi + 1) × (hi < 1024) ⌝ }
         ensures { λ r. ⌜ setOf (r .words) ≡ between lo hi ⌝ }
     {
-        let mut w = [0u64; 16];
-        for k in 0..16 {
-            w[k] = mask(hi + 1, k) ^ mask(lo, k);
+        if hi < lo {
+            return Timestamp::empty();
         }
+        let mut w = [0u64; 16];
+        fill(&mut w, lo, hi);
         Timestamp { words: w }
     }
 
@@ -112,10 +206,10 @@ impl Timestamp {
         requires { ⌜ i < 1024 ⌝ }
         ensures { λ r. ⌜ setOf (r .words) ≡ cutAt i (setOf (self .words)) ⌝ }
     {
-        let mut w = [0u64; 16];
-        for k in 0..16 {
-            w[k] = self.words[k] & mask(i + 1, k);
-        }
+        let mut w = self.words;
+        let k = i / 64;
+        w[k] = w[k] & low(i % 64 + 1);
+        store(&mut w, k + 1, 16, 0);
         Timestamp { words: w }
     }
 
@@ -191,40 +285,20 @@ impl Timestamp {
         true
     }
 
-    // The least member in the words from k on, or 1024 where there is none.
-    fn in_words(self, k: usize) -> usize
-        requires { ⌜ k ≤ 16 ⌝ }
-        ensures { λ r. ⌜ r ≡ firstIn (1024 - k * 64) (setOf (self .words)) (k * 64) ⌝ }
-    {
-        let mut i = k;
-        while i < 16 {
-            let w = self.words[i];
-            if w != 0 {
-                return i * 64 + lowest(w);
-            }
-            i += 1;
-        }
-        1024
-    }
-
     // The least member from v on, or 1024 where there is none.
     pub fn next(self, v: usize) -> usize
         requires { ⌜ v < 1024 ⌝ }
         ensures { λ r. ⌜ r ≡ firstIn (1024 - v) (setOf (self .words)) v ⌝ }
     {
-        let k = v / 64;
-        let w = self.words[k] >> (v % 64);
-        if w == 0 {
-            self.in_words(k + 1)
-        } else {
-            v + lowest(w)
-        }
+        let words = self.words;
+        next_in(&words, v)
     }
 
     // The least member, or 1024 where there is none.
     pub fn first(self) -> usize
         ensures { λ r. ⌜ r ≡ firstIn 1024 (setOf (self .words)) 0 ⌝ }
     {
-        self.in_words(0)
+        let words = self.words;
+        first_in(&words, 0)
     }
 }

@@ -2,13 +2,14 @@
 use crate::Timestamp;
 use crate::fill;
 ghost use mathlib.Core.Path.{_≡_};
-ghost use mathlib.Core.Bool.{Bool};
+ghost use mathlib.Core.Bool.{Bool, true};
 ghost use Prim.Native.Nat.{ℕ, _+_, _-_, _*_, _<_, _≤_, min};
 ghost use lib.ListN.{getD, length};
 ghost use Rattle.timestamp.specs.Times.{belongs as isIn};
 ghost use Rattle.timestamp.specs.Belongs.{dashed, stepped, holds};
 ghost use Rattle.timestamp.specs.Set.{setOf};
 ghost use Rattle.timestamp.specs.Parse.{parsed, outcome};
+ghost use Rattle.timestamp.specs.Numbers.{Onward, isFirst};
 ghost use Rattle.timestamp.specs.Reading.{more, opens, closes, startAt, view, bad, digitIn, dashIn, closeIn, stepIn};
 ghost use Rattle.xml.specs.Bytes.{isDigit};
 
@@ -85,21 +86,143 @@ impl Span {
     }
 }
 
-// Whether v is in the set with this text: a turn of the loop for each run, in which the bytes of its numbers are read.
+fn is_digit(b: u8) -> bool
+    ensures { λ r. ⌜ r ≡ isDigit b ⌝ }
+{
+    if 48 <= b { b <= 57 } else { false }
+}
+
+// A number that a text has at a place, and the place after it; n is 0 where none is read there.
+pub struct Number {
+    pub n: usize,
+    pub to: usize,
+}
+
+// Whether a number of 1 to 999 may begin with this byte.
+fn is_first(b: u8) -> bool
+    ensures { λ r. ⌜ r ≡ isFirst b ⌝ }
+{
+    if 49 <= b { b <= 57 } else { false }
+}
+
+// The number of one digit.
+fn one_digit(a: u8) -> usize
+    requires { ⌜ isFirst a ≡ true ⌝ }
+    ensures { λ r. ⌜ r ≡ a - 48 ⌝ }
+{
+    (a as usize) - 48
+}
+
+// The number of two digits.
+fn two_digits(a: u8, b: u8) -> usize
+    requires { ⌜ (isFirst a ≡ true) × (isDigit b ≡ true) ⌝ }
+    ensures { λ r. ⌜ r ≡ a * 10 + b - 528 ⌝ }
+{
+    (a as usize) * 10 + (b as usize) - 528
+}
+
+// The number of three digits.
+fn three_digits(a: u8, b: u8, c: u8) -> usize
+    requires { ⌜ (isFirst a ≡ true) × (isDigit b ≡ true) × (isDigit c ≡ true) ⌝ }
+    ensures { λ r. ⌜ r ≡ a * 100 + b * 10 + c - 5328 ⌝ }
+{
+    (a as usize) * 100 + (b as usize) * 10 + (c as usize) - 5328
+}
+
+// The number at a place, of which two digits at most are read.
+fn short_at(text: &[u8], at: usize) -> Number
+    requires { ⌜ at ≤ length (now text) ⌝ }
+    ensures { λ r. ⌜ Onward (now (text .entry)) at 0 (r .n) (r .to) ⌝ }
+{
+    if text.len() <= at {
+        return Number { n: 0, to: at };
+    }
+    let a = text[at];
+    if is_first(a) {
+        if 1 < text.len() - at {
+            let b = text[at + 1];
+            if is_digit(b) {
+                return Number {
+                    n: two_digits(a, b),
+                    to: at + 2,
+                };
+            }
+        }
+        return Number {
+            n: one_digit(a),
+            to: at + 1,
+        };
+    }
+    Number { n: 0, to: at }
+}
+
+// The number at a place, of which three digits at most are read.
+fn number_at(text: &[u8], at: usize) -> Number
+    requires { ⌜ at ≤ length (now text) ⌝ }
+    ensures { λ r. ⌜ Onward (now (text .entry)) at 0 (r .n) (r .to) ⌝ }
+{
+    if text.len() - at < 3 {
+        return short_at(text, at);
+    }
+    let a = text[at];
+    if is_first(a) {
+        let b = text[at + 1];
+        if is_digit(b) {
+            let c = text[at + 2];
+            if is_digit(c) {
+                return Number {
+                    n: three_digits(a, b, c),
+                    to: at + 3,
+                };
+            }
+            return Number {
+                n: two_digits(a, b),
+                to: at + 2,
+            };
+        }
+        return Number {
+            n: one_digit(a),
+            to: at + 1,
+        };
+    }
+    Number { n: 0, to: at }
+}
+
+// The number at a place, where no digit of it is read before; else the number n so far.
+fn number_on(text: &[u8], at: usize, n: usize) -> Number
+    requires { ⌜ at ≤ length (now text) ⌝ }
+    ensures { λ r. ⌜ Onward (now (text .entry)) at n (r .n) (r .to) ⌝ }
+{
+    if n == 0 {
+        number_at(text, at)
+    } else {
+        Number { n: n, to: at }
+    }
+}
+
+// Whether v is in the set with this text: a turn of the loop for each run, in which its numbers and the bytes between them are read.
 pub fn belongs(text: &[u8], v: usize) -> bool
     requires { ⌜ v < 1000 ⌝ }
     ensures { λ r. ⌜ r ≡ isIn v (now (text .entry)) ⌝ }
 {
     let mut at = 0;
     loop {
+        let first = number_at(text, at);
         let mut run = Span {
             dashes: 0,
             lo: 0,
-            n: 0,
+            n: first.n,
         };
+        at = first.to;
         while byte_at(text, at) != b',' {
-            run = run.step(byte_at(text, at));
-            at += 1;
+            let x = run.step(byte_at(text, at));
+            let y = number_on(text, at + 1, x.n);
+            run = Span {
+                dashes: x.dashes,
+                lo: x.lo,
+                n: y.n,
+            };
+            at = y.to;
         }
         if run.holds(v) {
             break true;
@@ -123,12 +246,6 @@ pub struct Reader {
 pub struct Parsed {
     pub ok: bool,
     pub stamp: Timestamp,
-}
-
-fn is_digit(b: u8) -> bool
-    ensures { λ r. ⌜ r ≡ isDigit b ⌝ }
-{
-    if 48 <= b { b <= 57 } else { false }
 }
 
 // The number stays below 1000 with this digit after it, and has no leading zero.
@@ -250,16 +367,24 @@ pub fn parse(text: &[u8]) -> Parsed
     ensures { λ r. ⌜ outcome r ≡ parsed (now (text .entry)) ⌝ }
 {
     let mut words = [0u64; 16];
+    let first = number_at(text, 0);
     let mut x = Reader {
         ok: true,
         p: 0,
         lo: 0,
-        n: 0,
+        n: first.n,
     };
-    let mut at = 0;
+    let mut at = first.to;
     while at < text.len() {
-        x = x.step(text[at], &mut words);
-        at += 1;
+        let z = x.step(text[at], &mut words);
+        let m = number_on(text, at + 1, z.n);
+        x = Reader {
+            ok: z.ok,
+            p: z.p,
+            lo: z.lo,
+            n: m.n,
+        };
+        at = m.to;
     }
     let y = x.close(&mut words);
     Parsed {

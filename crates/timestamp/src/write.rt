@@ -1,6 +1,8 @@
 // Writing a timestamp's text. A writer is handed the whole output and the place to write at, which may lie past the output's end: it
 // writes what fits, and answers the place after all of it.
 use crate::Timestamp;
+use crate::gap_in;
+use crate::next_in;
 use xml::writer::put;
 ghost use mathlib.Core.Path.{_≡_};
 ghost use mathlib.Core.List.{[], _∷_};
@@ -73,13 +75,13 @@ impl Timestamp {
         requires { ⌜ at < 2 ^ 61 ⌝ }
         ensures { λ r. ⌜ Wrote (now (out .entry)) at (textOf (setOf (self .words))) r (now (out .exit)) ⌝ }
     {
-        let gaps = self.complement();
+        let words = self.words;
         let mut to = at;
-        let mut lo = self.next(1);
+        let mut lo = next_in(&words, 1);
         while lo < 1000 {
-            let end = least(gaps.next(lo), 1000);
+            let end = least(gap_in(&words, lo), 1000);
             to = put_part(out, to, at < to, lo, end - 1);
-            lo = self.next(end);
+            lo = next_in(&words, end);
         }
         to
     }

@@ -51,7 +51,7 @@ module _ (i : ℕ) where
   }
 
   -- what is left out only makes it shorter
-  pick-shorter : (f : Forest) → length (write (pick i f)) ≤ length (write f)
+  pub pick-shorter : (f : Forest) → length (write (pick i f)) ≤ length (write f)
   unfolding pick write
   pick-shorter end = omega arith
   pick-shorter (text b r) = simp length-append (omega (arith, pick-shorter r))

@@ -3,3 +3,4 @@ pub mod Tags
 pub mod Steps
 pub mod Turns
 pub mod Closes
+pub mod TextRuns

@@ -1,13 +1,13 @@
--- The commonest bytes, told by comparisons alone: letters, digits, white space, and the bytes of a text that stand for themselves.
+-- Bytes told by comparisons alone: of names and of times, the commonest white space, and the bytes of a text that stand for themselves.
 use Prim.Native.Nat.{ℕ, _<_, _≤_}
 use Prim.Native.Char.{code}
 use native.Mathlib.Omega.{arith}
 use mathlib.Core.Path.{_≡_, refl, sym, _∙_}
 use mathlib.Core.Bool.{Bool, true, false, not, _&&_, _||_}
-use borrow.Author.Tests.{ne-eqb, le-leb, lt-leb, eqb-true, leb-true, leb-false}
-use lib.Dec.{eqb, leb}
-use Rattle.xml.specs.Bytes.{Bytes, illegal, white, start, other, markup, plain, classOf, among, within, isLetter, isDigit, isWhite, isLegal, isStart, isNameByte, bytes-compute}
-use Rattle.xml.specs.Truth.{by-test, clash, and-left, or-first}
+use borrow.Author.Tests.{ne-eqb, le-leb, lt-ltb, le-ltb, ltb-true, ltb-false, lt-leb, eqb-true, eqb-false, leb-true, leb-false}
+use lib.Dec.{eqb, leb, ltb}
+use Rattle.xml.specs.Bytes.{Bytes, illegal, white, start, other, markup, plain, classOf, among, within, isLetter, isDigit, isWhite, isLegal, isStart, isNameByte, isTimes, bytes-compute}
+use Rattle.xml.specs.Truth.{bool-by, by-test, clash, and-left, or-first, neither}
 use Rattle.xml.specs.GrammarLaws.{classBy}
 use Rattle.xml.specs.Read.{textByte}
 use Rattle.xml.specs.TextLaws.{byte-other}
@@ -36,6 +36,24 @@ digit-by true n d m p e f = clash e
 digit-by false true d m p e f = refl
 digit-by false false true m p e f = refl
 digit-by false false false m p e f = clash (sym f)
+
+unstarted-by : (w n d m p : Bool) → n ≡ false →
+    elim (classBy w n d m p) [ illegal ↦ false | white ↦ false | start ↦ true | other ↦ false | markup ↦ false | plain ↦ false ] ≡ false
+unstarted-by true n d m p e = refl
+unstarted-by false true d m p e = clash e
+unstarted-by false false true m p e = refl
+unstarted-by false false false true p e = refl
+unstarted-by false false false false true e = refl
+unstarted-by false false false false false e = refl
+
+unnamed-by : (w n d m p : Bool) → n ≡ false → d ≡ false →
+    elim (classBy w n d m p) [ illegal ↦ false | white ↦ false | start ↦ true | other ↦ true | markup ↦ false | plain ↦ false ] ≡ false
+unnamed-by true n d m p e f = refl
+unnamed-by false true d m p e f = clash e
+unnamed-by false false true m p e f = clash f
+unnamed-by false false false true p e f = refl
+unnamed-by false false false false true e f = refl
+unnamed-by false false false false false e f = refl
 
 black-by : (w n d m p : Bool) → w ≡ false →
     elim (classBy w n d m p) [ illegal ↦ false | white ↦ true | start ↦ false | other ↦ false | markup ↦ false | plain ↦ false ] ≡ false
@@ -77,9 +95,55 @@ module _ (b : ℕ) where
   unfolding bytes-compute
   digit-below h = rw (lt-leb (code "0") b h)
 
+  digit-over : code "9" < b → isDigit b ≡ false
+  unfolding bytes-compute
+  digit-over h = rw (le-leb (code "0") b (omega arith), lt-leb b (code "9") h)
+
   pub digit-from : code "0" ≤ b → isDigit b ≡ leb b (code "9")
   unfolding bytes-compute
   digit-from h = rw (le-leb (code "0") b h)
+
+-- ---- bytes of times
+-- a byte that is none of them
+abbrev pub isForeign : ℕ → Bool
+isForeign b = ltb b (code ",") || ltb (code "9") b || eqb b (code ".") || eqb b (code "/")
+
+module _ (b : ℕ) where
+  foreign-low : b < code "," → isForeign b ≡ not (isTimes b)
+  unfolding bytes-compute
+  foreign-low h =
+      rw (lt-ltb b (code ",") h, lt-leb (code "0") b (omega arith), ne-eqb b (code "-") (λ e. omega arith), ne-eqb b (code ",") (λ e. omega arith))
+
+  foreign-high : code "9" < b → isForeign b ≡ not (isTimes b)
+  unfolding bytes-compute
+  foreign-high h =
+      rw (le-ltb b (code ",") (omega arith), lt-ltb (code "9") b h, le-leb (code "0") b (omega arith), lt-leb b (code "9") h, ne-eqb b (code "-") (λ e. omega arith), ne-eqb b (code ",") (λ e. omega arith))
+
+  foreign-digit : code "0" ≤ b → b ≤ code "9" → isForeign b ≡ not (isTimes b)
+  unfolding bytes-compute
+  foreign-digit h k =
+      rw (le-ltb b (code ",") (omega arith), le-ltb (code "9") b k, le-leb (code "0") b h, le-leb b (code "9") k, ne-eqb b (code ".") (λ e. omega arith), ne-eqb b (code "/") (λ e. omega arith))
+
+  foreign-one : (c : ℕ) → b ≡ c → isForeign c ≡ not (isTimes c) → isForeign b ≡ not (isTimes b)
+  foreign-one c e h = rw e h
+
+  -- `,`, `-`, `.`, `/`
+  foreign-sign : code "," ≤ b → b < code "0" → isForeign b ≡ not (isTimes b)
+  unfolding bytes-compute
+  foreign-sign h k =
+      by-test (eqb b (code ",")) (λ t. foreign-one (code ",") (eqb-true b (code ",") t) refl)
+      (λ t. let n = eqb-false b (code ",") t in
+      by-test (eqb b (code "-")) (λ u. foreign-one (code "-") (eqb-true b (code "-") u) refl)
+      (λ u. let m = eqb-false b (code "-") u in
+      by-test (eqb b (code ".")) (λ v. foreign-one (code ".") (eqb-true b (code ".") v) refl)
+      (λ v. let o = eqb-false b (code ".") v in foreign-one (code "/") (omega (arith, n, m, o)) refl)))
+
+  pub foreign-not : isForeign b ≡ not (isTimes b)
+  foreign-not =
+      by-test (ltb b (code ",")) (λ t. foreign-low (ltb-true b (code ",") t))
+      (λ t. by-test (ltb (code "9") b) (λ u. foreign-high (ltb-true (code "9") b u))
+      (λ u. by-test (leb (code "0") b) (λ v. foreign-digit (leb-true (code "0") b v) (ltb-false (code "9") b u))
+      (λ v. foreign-sign (ltb-false b (code ",") t) (leb-false (code "0") b v))))
 
 -- ---- the bytes above the space are not white
 space-none : (b : ℕ) → 32 < b → among "\t\n\r " b ≡ false
@@ -113,9 +177,73 @@ module _ (b : ℕ) where
       digit-by (among "\t\n\r " b) (isLetter b || eqb b (code "_")) (isDigit b || among ".-" b) (among "<&" b) (within 0x20 0x7E b)
       (space-none b (digit-high b e)) (or-first (isDigit b) (among ".-" b) e)
 
-  pub greater-ends : b ≡ code ">" → isNameByte b ≡ false
+  start-none : isLetter b ≡ false → eqb b (code "_") ≡ false → isStart b ≡ false
+  unfolding isStart classOf
+  start-none l u =
+      unstarted-by (among "\t\n\r " b) (isLetter b || eqb b (code "_")) (isDigit b || among ".-" b) (among "<&" b) (within 0x20 0x7E b) (neither l u)
+
+  named-none : isLetter b ≡ false → eqb b (code "_") ≡ false → isDigit b ≡ false → among ".-" b ≡ false → isNameByte b ≡ false
+  unfolding isNameByte classOf
+  named-none l u d o =
+      unnamed-by (among "\t\n\r " b) (isLetter b || eqb b (code "_")) (isDigit b || among ".-" b) (among "<&" b) (within 0x20 0x7E b) (neither l u) (neither d o)
+
+  signs-none : (b ≡ code "." → ⊥) → (b ≡ code "-" → ⊥) → among ".-" b ≡ false
   unfolding bytes-compute
-  greater-ends e = rw e
+  signs-none d m = rw (ne-eqb b (code ".") d, ne-eqb b (code "-") m)
+
+  -- `_`, `-` and `.`
+  pub line-starts : b ≡ code "_" → isStart b ≡ true
+  unfolding bytes-compute
+  line-starts e = rw e
+
+  line-named : b ≡ code "_" → isNameByte b ≡ true
+  unfolding bytes-compute
+  line-named e = rw e
+
+  pub dash-named : b ≡ code "-" → isNameByte b ≡ true
+  unfolding bytes-compute
+  dash-named e = rw e
+
+  dot-named : b ≡ code "." → isNameByte b ≡ true
+  unfolding bytes-compute
+  dot-named e = rw e
+
+  -- a byte between two of these, told by one comparison
+  pub start-small : code "a" ≤ b → isStart b ≡ leb b (code "z")
+  start-small h =
+      bool-by (λ (t : Bool). isStart b ≡ t) (leb b (code "z")) (λ t. letter-starts (letter-small b h ∙ t))
+      (λ t. start-none (letter-small b h ∙ t) (ne-eqb b (code "_") (λ e. omega arith)))
+
+  pub start-low : b < code "A" → isStart b ≡ false
+  start-low h = start-none (letter-low b h) (ne-eqb b (code "_") (λ e. omega arith))
+
+  pub start-capital : code "A" ≤ b → b < code "a" → (b ≡ code "_" → ⊥) → isStart b ≡ leb b (code "Z")
+  start-capital h k n =
+      bool-by (λ (t : Bool). isStart b ≡ t) (leb b (code "Z")) (λ t. letter-starts (letter-capital b h (leb-true b (code "Z") t)))
+      (λ t. start-none (letter-between b (leb-false b (code "Z") t) k) (ne-eqb b (code "_") n))
+
+  pub named-small : code "a" ≤ b → isNameByte b ≡ leb b (code "z")
+  named-small h =
+      bool-by (λ (t : Bool). isNameByte b ≡ t) (leb b (code "z")) (λ t. letter-named (letter-small b h ∙ t))
+      (λ t.
+      named-none (letter-small b h ∙ t) (ne-eqb b (code "_") (λ e. omega arith)) (digit-over b (omega arith)) (signs-none (λ e. omega arith) (λ e. omega arith)))
+
+  pub named-between : code "Z" < b → b < code "a" → isNameByte b ≡ eqb b (code "_")
+  named-between h k =
+      bool-by (λ (t : Bool). isNameByte b ≡ t) (eqb b (code "_")) (λ t. line-named (eqb-true b (code "_") t))
+      (λ t. named-none (letter-between b h k) t (digit-over b (omega arith)) (signs-none (λ e. omega arith) (λ e. omega arith)))
+
+  pub named-digit : code "0" ≤ b → b < code "A" → isNameByte b ≡ leb b (code "9")
+  named-digit h k =
+      bool-by (λ (t : Bool). isNameByte b ≡ t) (leb b (code "9")) (λ t. digit-named (digit-from b h ∙ t))
+      (λ t.
+      named-none (letter-low b k) (ne-eqb b (code "_") (λ e. omega arith)) (digit-from b h ∙ t) (signs-none (λ e. omega arith) (λ e. omega arith)))
+
+  pub named-sign : b < code "0" → (b ≡ code "-" → ⊥) → isNameByte b ≡ eqb b (code ".")
+  named-sign h m =
+      bool-by (λ (t : Bool). isNameByte b ≡ t) (eqb b (code ".")) (λ t. dot-named (eqb-true b (code ".") t))
+      (λ t.
+      named-none (letter-low b (omega arith)) (ne-eqb b (code "_") (λ e. omega arith)) (digit-below b h) (signs-none (eqb-false b (code ".") t) m))
 
 -- ---- white space
 module _ (b : ℕ) where
@@ -167,6 +295,29 @@ module _ (b : ℕ) where
   unfolding isPlain bytes-compute
   plain-other h k n a d e =
       rw (ne-eqb b (code "\n") (λ z. omega arith), le-leb 0x20 b h, le-leb b 0x7E k, ne-eqb b (code "<") n, ne-eqb b (code "&") a, ne-eqb b (code "]") d, ne-eqb b (code ">") e)
+
+  pub plain-above : code ">" < b → (b ≡ code "]" → ⊥) → isPlain b ≡ leb b 0x7E
+  plain-above h d =
+      bool-by (λ (t : Bool). isPlain b ≡ t) (leb b 0x7E)
+      (λ t. plain-other (omega arith) (leb-true b 0x7E t) (λ e. omega arith) (λ e. omega arith) d (λ e. omega arith))
+      (λ t. plain-high (leb-false b 0x7E t))
+
+  pub plain-upper : code "<" ≤ b → b ≤ code ">" → isPlain b ≡ eqb b (code "=")
+  plain-upper h k =
+      bool-by (λ (t : Bool). isPlain b ≡ t) (eqb b (code "="))
+      (λ t. let e = eqb-true b (code "=") t in
+      plain-other (omega arith) (omega arith) (λ z. omega arith) (λ z. omega arith) (λ z. omega arith) (λ z. omega arith))
+      (λ t. let n = eqb-false b (code "=") t in
+      by-test (eqb b (code "<")) (λ u. plain-lt (eqb-true b (code "<") u))
+      (λ u. let m = eqb-false b (code "<") u in plain-greater (omega (arith, n, m))))
+
+  pub plain-middle : code "&" < b → b < code "<" → isPlain b ≡ true
+  plain-middle h k = plain-other (omega arith) (omega arith) (λ e. omega arith) (λ e. omega arith) (λ e. omega arith) (λ e. omega arith)
+
+  pub plain-lower : 0x20 ≤ b → b ≤ code "&" → isPlain b ≡ not (eqb b (code "&"))
+  plain-lower h k =
+      bool-by (λ (t : Bool). isPlain b ≡ not t) (eqb b (code "&")) (λ t. plain-amp (eqb-true b (code "&") t))
+      (λ t. plain-other h (omega arith) (λ e. omega arith) (eqb-false b (code "&") t) (λ e. omega arith) (λ e. omega arith))
 
   feed-legal : b ≡ code "\n" → isLegal b ≡ true
   unfolding bytes-compute

@@ -1,10 +1,10 @@
 -- The classes of bytes as numbers, and what a number says of a byte.
-use Prim.Native.Nat.{ℕ, _/_, _<_, _≤_}
+use Prim.Native.Nat.{ℕ, _<_, _≤_}
 use mathlib.Core.Path.{_≡_, refl, _∙_}
 use mathlib.Core.Bool.{true, false}
 use lib.Dec.{eqb, leb}
 use borrow.Author.Tests.{eq-eqb, ne-eqb, le-leb, lt-leb}
-use Rattle.xml.specs.Bytes.{Class, illegal, white, start, other, markup, plain, classOf, isWhite, isLegal, isStart, isNameByte}
+use Rattle.xml.specs.Bytes.{Class, illegal, white, start, other, markup, plain, classOf, isWhite, isLegal}
 
 -- "illegal, white space, name start, other name byte, markup (`<`, `&`), other text"
 unfoldable pub classNumber : Class → ℕ
@@ -33,24 +33,6 @@ legal-class other = refl
 legal-class markup = refl
 legal-class plain = refl
 
-start-class : (c : Class) → elim c [ illegal ↦ false | white ↦ false | start ↦ true | other ↦ false | markup ↦ false | plain ↦ false ] ≡ eqb (classNumber c) 2
-unfolding classNumber
-start-class illegal = refl
-start-class white = refl
-start-class start = refl
-start-class other = refl
-start-class markup = refl
-start-class plain = refl
-
-name-class : (c : Class) → elim c [ illegal ↦ false | white ↦ false | start ↦ true | other ↦ true | markup ↦ false | plain ↦ false ] ≡ eqb (classNumber c / 2) 1
-unfolding classNumber
-name-class illegal = refl
-name-class white = refl
-name-class start = refl
-name-class other = refl
-name-class markup = refl
-name-class plain = refl
-
 pub white-number : (b : ℕ) → isWhite b ≡ eqb (classNumber (classOf b)) 1
 unfolding isWhite
 white-number b = white-class (classOf b)
@@ -58,15 +40,6 @@ white-number b = white-class (classOf b)
 pub legal-number : (b : ℕ) → isLegal b ≡ leb 1 (classNumber (classOf b))
 unfolding isLegal
 legal-number b = legal-class (classOf b)
-
-pub start-number : (b : ℕ) → isStart b ≡ eqb (classNumber (classOf b)) 2
-unfolding isStart
-start-number b = start-class (classOf b)
-
--- 2 and 3 are the bytes of names
-pub name-number : (b : ℕ) → isNameByte b ≡ eqb (classNumber (classOf b) / 2) 1
-unfolding isNameByte
-name-number b = name-class (classOf b)
 
 -- n is the class of b
 module _ (b : ℕ) {n : ℕ} (is : n ≡ classNumber (classOf b)) where
@@ -81,9 +54,3 @@ module _ (b : ℕ) {n : ℕ} (is : n ≡ classNumber (classOf b)) where
 
   pub legal-no : n < 1 → isLegal b ≡ false
   legal-no e = legal-number b ∙ rw (← is) (lt-leb 1 n e)
-
-  pub name-yes : n / 2 ≡ 1 → isNameByte b ≡ true
-  name-yes e = name-number b ∙ rw (← is) (eq-eqb (n / 2) 1 e)
-
-  pub name-no : (n / 2 ≡ 1 → ⊥) → isNameByte b ≡ false
-  name-no e = name-number b ∙ rw (← is) (ne-eqb (n / 2) 1 e)

@@ -54,3 +54,4 @@ pub mod NeatSpelled
 pub mod Canonical
 pub mod CanonicalLaws
 pub mod ByteTests
+pub mod Stretch

@@ -2,7 +2,7 @@
 use Prim.Native.Nat.{ℕ, zero, suc, _+_, _-_, _<_}
 use Prim.Native.Char.{code}
 use mathlib.Core.Path.{_≡_, refl, ap, sym, _∙_}
-use mathlib.Core.Bool.{Bool, true, false, not, _&&_}
+use mathlib.Core.Bool.{Bool, true, false, not}
 use mathlib.Core.List.{[], _∷_, _++_, append-nil}
 use native.Mathlib.Omega.{arith}
 use lib.ListN.{length, getD, length-append}
@@ -15,10 +15,8 @@ use Rattle.xml.specs.Read.{whole, read}
 use Rattle.xml.specs.RoundTrip.{read-tidy}
 use Rattle.xml.specs.Sound.{read-sound}
 use Rattle.xml.specs.Truth.{by-test, clash, not-so, and-left, and-right}
-use Rattle.xml.specs.Neat.{spells, isText, last, neat}
-use Rattle.xml.specs.NeatLaws.{neat-empty, neat-first, neat-last, neat-inner}
-use Rattle.xml.specs.declared.spelling.Spell.the-variants.{Text, Otherwise}
-use Rattle.xml.specs.NeatWritten.{Neatly, right, other, write-leads, content-neatly}
+use Rattle.xml.specs.Neat.{count, others, tags, last, Neat}
+use Rattle.xml.specs.NeatWritten.{write-signs, content-told}
 
 -- ---- the first and the last byte
 white-at : (s : Bytes) (i : ℕ) → all isWhite s ≡ true → i < length s → isWhite (getD s i 0) ≡ true
@@ -68,55 +66,54 @@ write-some (elem n k f) r e = omega arith
 write-some (text b f) r e = absurd r
 write-some (stamp t k f) r e = omega arith
 
-pub write-neat : (a : Bool) (f : Forest) → Tidy a f → Root f → neat (write f) ≡ true
-unfolding isText
-write-neat a f t r = neat-inner (write f) (write-some f r) (write-first f r) (write-last f r) ∙ ap isText (write-leads a f t .leads)
+-- what is written is neat
+write-neat : (a : Bool) (f : Forest) → Tidy a f → Root f → Neat (tags f) (write f)
+unfolding others
+write-neat a f t r =
+    let x = write-signs a f t in
+    record {
+      some = write-some f r;
+      black-first = write-first f r;
+      black-last = write-last f r;
+      less = x .less;
+      greater = x .greater;
+      no-others = ap others (sym (append-nil (write f))) ∙ x .passes [];
+    }
 
 -- ---- a text that is neat has no white space around it
-neat-not-empty : (s : Bytes) → neat s ≡ true → length s ≡ 0 → ⊥
-neat-not-empty s e n = clash (sym e ∙ neat-empty s n)
-
-no-before : (b s : Bytes) → all isWhite b ≡ true → neat (b ++ s) ≡ true → b ≡ []
+no-before : (b s : Bytes) → all isWhite b ≡ true → isWhite (getD (b ++ s) 0 0) ≡ false → b ≡ []
 no-before [] s w e = refl
-no-before (x ∷ b) s w e = clash (sym e ∙ neat-first (x ∷ (b ++ s)) (λ n. neat-not-empty (x ∷ (b ++ s)) e n) (white-at (x ∷ b) 0 w (omega arith)))
+no-before (x ∷ b) s w e = clash (sym (white-at (x ∷ b) 0 w (omega arith)) ∙ e)
 
-no-after : (s a : Bytes) → all isWhite a ≡ true → neat (s ++ a) ≡ true → a ≡ []
+no-after : (s a : Bytes) → all isWhite a ≡ true → isWhite (last (s ++ a)) ≡ false → a ≡ []
 no-after s [] w e = refl
-no-after s (x ∷ a) w e =
-    clash
-    (sym e
-    ∙ neat-last (s ++ x ∷ a) (λ n. neat-not-empty (s ++ x ∷ a) e n)
-    (ap isWhite (last-after s x a) ∙ white-at (x ∷ a) (length (x ∷ a) - 1) w (omega arith)))
+no-after s (x ∷ a) w e = clash (sym (ap isWhite (last-after s x a) ∙ white-at (x ∷ a) (length (x ∷ a) - 1) w (omega arith)) ∙ e)
 
-neat-text : (s : Bytes) → neat s ≡ true → spells Text s ≡ Otherwise → ⊥
-unfolding neat isText
-neat-text [] e d = clash (sym e)
-neat-text (b ∷ s) e d =
-    clash (sym (and-right (not (isWhite b) && not (isWhite (last (b ∷ s)))) (isText (spells Text (b ∷ s))) e) ∙ ap isText d)
-
-neatly-is : (s w : Bytes) → Neatly s w → neat s ≡ true → s ≡ w
-neatly-is s w (right h d) e = d
-neatly-is s w (other h) e = absurd (neat-text s e (h .leads))
-
-spelled-is : (a : Bool) (s : Bytes) (f : Forest) → Spells a s f → neat s ≡ true → s ≡ write f
-spelled-is a s f p e =
+neat-is : (a : Bool) (s : Bytes) (f : Forest) → Spells a s f → Tidy a f → Neat (tags f) s → s ≡ write f
+neat-is a s f p t n =
     let b : Bytes = p .before in
     let i : Bytes = p .inner in
     let z : Bytes = p .after in
-    let e₁ : neat (b ++ i ++ z) ≡ true = ap neat (sym (p .text-is)) ∙ e in
-    let z₀ : z ≡ [] = no-after (b ++ i) z (p .white-after) e₁ in
-    let e₂ : b ++ i ++ z ≡ b ++ i = ap (λ (x : Bytes). b ++ i ++ x) z₀ ∙ append-nil (b ++ i) in
-    let b₀ : b ≡ [] = no-before b i (p .white-before) (ap neat (sym e₂) ∙ e₁) in
-    let e₃ : s ≡ i = p .text-is ∙ e₂ ∙ ap (λ (x : Bytes). x ++ i) b₀ in
-    e₃ ∙ neatly-is i (write f) (content-neatly (p .content)) (ap neat (sym e₃) ∙ e)
+    let z₀ : z ≡ [] = no-after (b ++ i) z (p .white-after) (ap (λ (x : Bytes). isWhite (last x)) (sym (p .text-is)) ∙ n .black-last) in
+    let e : s ≡ b ++ i = p .text-is ∙ ap (λ (x : Bytes). b ++ i ++ x) z₀ ∙ append-nil (b ++ i) in
+    let b₀ : b ≡ [] = no-before b i (p .white-before) (ap (λ (x : Bytes). isWhite (getD x 0 0)) (sym e) ∙ n .black-first) in
+    let d : s ≡ i = e ∙ ap (λ (x : Bytes). x ++ i) b₀ in
+    let x = write-signs a f t in
+    d ∙ content-told (p .content) .is [] (ap others (append-nil i ∙ sym d) ∙ n .no-others)
+    (ap (count (code "<")) (sym d) ∙ n .less ∙ sym (x .less)) (ap (count (code ">")) (sym d) ∙ n .greater ∙ sym (x .greater))
 
 -- THE law: a text that can be read is spelled exactly as its forest is written just where it is neat
-pub neat-spelled : (a : Bool) (s : Bytes) (f : Forest) → read a s ≡ whole f → neat s ≡ same s (write f)
-neat-spelled a s f e = by-test (same s (write f)) written otherwise
-  where
-    written : same s (write f) ≡ true → neat s ≡ same s (write f)
-    written h = let t = read-tidy a s f e in ap neat (same-is s (write f) h) ∙ write-neat a f (t .0) (t .1) ∙ sym h
+module _ (a : Bool) (s : Bytes) (f : Forest) (e : read a s ≡ whole f) where
+  pub neat-spelled : Neat (tags f) s → same s (write f) ≡ true
+  neat-spelled n = ap (same s) (sym (neat-is a s f (read-sound a s f e) (read-tidy a s f e .0) n)) ∙ same-self s
 
-    otherwise : same s (write f) ≡ false → neat s ≡ same s (write f)
-    otherwise h =
-        not-so (neat s) (λ n. clash (sym (same-self s) ∙ ap (same s) (spelled-is a s f (read-sound a s f e) n) ∙ h)) ∙ sym h
+  pub spelled-neat : same s (write f) ≡ true → Neat (tags f) s
+  spelled-neat h = let t = read-tidy a s f e in rw (same-is s (write f) h) (write-neat a f (t .0) (t .1))
+
+  -- so a text that is not neat is spelled otherwise, and what is told last decides
+  pub not-spelled : (Neat (tags f) s → ⊥) → same s (write f) ≡ false
+  not-spelled n = not-so (same s (write f)) (λ h. n (spelled-neat h))
+
+  pub last-told : {r : Bool} → r ≡ others s → (others s ≡ false → Neat (tags f) s) → not r ≡ same s (write f)
+  last-told {r} d k =
+      by-test r (λ x. ap not x ∙ sym (not-spelled (λ n. clash (sym x ∙ d ∙ n .no-others)))) (λ x. ap not x ∙ sym (neat-spelled (k (sym d ∙ x))))

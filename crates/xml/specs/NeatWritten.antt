@@ -1,248 +1,244 @@
--- What is written is neat; and what is read is neat where it is as written: piece by piece.
-use Prim.Native.Nat.{ℕ, suc}
+-- The counts of what is written; and what is read is as written where its counts are the same, piece by piece.
+use Prim.Native.Nat.{ℕ, suc, _+_, _*_, _≤_}
 use Prim.Native.Char.{code}
+use native.Mathlib.Omega.{arith}
 use mathlib.Core.Path.{_≡_, refl, ap, ap₂, sym, _∙_}
 use mathlib.Core.Bool.{Bool, true, false, _&&_}
-use mathlib.Core.List.{[], _∷_, _++_}
-use borrow.Author.Tests.{eqb-true, eqb-false}
+use mathlib.Core.List.{[], _∷_, _++_, append-assoc}
+use borrow.Author.Tests.{eqb-true, eqb-false, ne-eqb}
 use lib.Dec.{eqb, leb}
 use lib.ListN.{length}
 use Rattle.xml.specs.Bytes.{Bytes, bytes, all, isCharacter, isNameByte, isName, isValue, isStart, isTimes, bytes-compute}
 use Rattle.xml.specs.Forest.{Forest, end, elem, text, stamp, escape, write, Tidy}
 use Rattle.xml.specs.Grammar.{Entity, lt, gt, amp, quot, apos, Characters, none, kept, entity, Content, nothing, run, element, lone, times}
 use Rattle.xml.specs.GrammarLaws.{character-not, lt-markup, amp-markup}
-use Rattle.xml.specs.SignLaws.{Plain, escape-one, escape-amp, escape-lt, escape-gt, escape-cons, escape-plain}
+use Rattle.xml.specs.SignLaws.{Plain, escape-one, escape-amp, escape-lt, escape-gt, escape-cons}
 use Rattle.xml.specs.Truth.{by-test, clash, and-right, both-true}
-use Rattle.xml.specs.Neat.{spell, spells}
-use Rattle.xml.specs.NeatLaws.{text-gt, text-plain, tag-other, slash-other}
-use Rattle.xml.specs.declared.spelling.Spell.{Spell}
-use Rattle.xml.specs.declared.spelling.Spell.the-variants.{Text, Tag, Slash, Otherwise}
+use Rattle.xml.specs.Neat.{count, others, tags}
+use Rattle.xml.specs.NeatLaws.{count-append, others-right}
 
-spells-append : (q : Spell) (s t : Bytes) → spells q (s ++ t) ≡ spells (spells q s) t
-unfolding spells
-spells-append q [] t = refl
-spells-append q (b ∷ s) t = spells-append (spell q b) s t
+-- ---- what is written: so many `<` and `>`, and no `&` with `q` or `ap` after it, whatever comes next
+pub record Signs (s : Bytes) (l g : ℕ) : Type 0 where
+  pub less : count (code "<") s ≡ l
+  pub greater : count (code ">") s ≡ g
+  pub passes : (t : Bytes) → others (s ++ t) ≡ others t
 
-spells-otherwise : (s : Bytes) → spells Otherwise s ≡ Otherwise
-unfolding spells spell
-spells-otherwise [] = refl
-spells-otherwise (b ∷ s) = spells-otherwise s
+then : {s u : Bytes} {l g m h : ℕ} → Signs s l g → Signs u m h → Signs (s ++ u) (l + m) (g + h)
+then {s} {u} x y =
+    record {
+      less = omega (arith, x .less, y .less, count-append (code "<") s u);
+      greater = omega (arith, x .greater, y .greater, count-append (code ">") s u);
+      passes = λ t. ap others (append-assoc s u t) ∙ x .passes (u ++ t) ∙ y .passes t;
+    }
 
--- ---- what is written is neat
--- pieces that begin and end in text, and the tags around them
-pieces : spells Text (bytes "&amp;") ≡ Text
-unfolding bytes spells spell
-pieces = refl
+nil-signs : Signs [] 0 0
+unfolding count
+nil-signs = record { less = refl; greater = refl; passes = λ t. refl }
 
-piece-lt : spells Text (bytes "&lt;") ≡ Text
-unfolding bytes spells spell
-piece-lt = refl
+less-signs : Signs (bytes "<") 1 0
+unfolding count others bytes
+less-signs = record { less = refl; greater = refl; passes = λ t. refl }
 
-piece-gt : spells Text (bytes "&gt;") ≡ Text
-unfolding bytes spells spell
-piece-gt = refl
+greater-signs : Signs (bytes ">") 0 1
+unfolding count others bytes
+greater-signs = record { less = refl; greater = refl; passes = λ t. refl }
 
-escape-byte : (b : ℕ) → spells Text (escape (b ∷ [])) ≡ Text
-unfolding spells
+slash-signs : Signs (bytes "</") 1 0
+unfolding count others bytes
+slash-signs = record { less = refl; greater = refl; passes = λ t. refl }
+
+lone-signs : Signs (bytes "/>") 0 1
+unfolding count others bytes
+lone-signs = record { less = refl; greater = refl; passes = λ t. refl }
+
+times-signs : Signs (bytes "<T t=\"") 1 0
+unfolding count others bytes
+times-signs = record { less = refl; greater = refl; passes = λ t. refl }
+
+quote-signs : Signs (bytes "\">") 0 1
+unfolding count others bytes
+quote-signs = record { less = refl; greater = refl; passes = λ t. refl }
+
+close-signs : Signs (bytes "</T>") 1 1
+unfolding count others bytes
+close-signs = record { less = refl; greater = refl; passes = λ t. refl }
+
+amp-signs : Signs (bytes "&amp;") 0 0
+unfolding count others bytes
+amp-signs = record { less = refl; greater = refl; passes = λ t. refl }
+
+lt-signs : Signs (bytes "&lt;") 0 0
+unfolding count others bytes
+lt-signs = record { less = refl; greater = refl; passes = λ t. refl }
+
+gt-signs : Signs (bytes "&gt;") 0 0
+unfolding count others bytes
+gt-signs = record { less = refl; greater = refl; passes = λ t. refl }
+
+plain-signs : {b : ℕ} → Plain b → Signs (b ∷ []) 0 0
+unfolding count others
+plain-signs {b} p =
+    record {
+      less = rw (ne-eqb b (code "<") (p .no-lt));
+      greater = rw (ne-eqb b (code ">") (p .no-gt));
+      passes = λ t. rw (ne-eqb b (code "&") (p .no-amp));
+    }
+
+escape-byte : (b : ℕ) → Signs (escape (b ∷ [])) 0 0
 escape-byte b =
-    by-test (eqb b (code "&")) (λ x. ap (spells Text) (escape-amp b (eqb-true b (code "&") x)) ∙ pieces)
-    (λ x. by-test (eqb b (code "<")) (λ y. ap (spells Text) (escape-lt b (eqb-true b (code "<") y)) ∙ piece-lt)
-    (λ y. by-test (eqb b (code ">")) (λ z. ap (spells Text) (escape-gt b (eqb-true b (code ">") z)) ∙ piece-gt)
+    by-test (eqb b (code "&")) (λ x. rw (escape-amp b (eqb-true b (code "&") x)) amp-signs)
+    (λ x. by-test (eqb b (code "<")) (λ y. rw (escape-lt b (eqb-true b (code "<") y)) lt-signs)
+    (λ y. by-test (eqb b (code ">")) (λ z. rw (escape-gt b (eqb-true b (code ">") z)) gt-signs)
     (λ z.
     let p : Plain b = record { no-amp = eqb-false b (code "&") x; no-lt = eqb-false b (code "<") y; no-gt = eqb-false b (code ">") z } in
-    ap (spells Text) (escape-one b p) ∙ text-plain b p)))
+    rw (escape-one b p) (plain-signs p))))
 
-escape-text : (t : Bytes) → spells Text (escape t) ≡ Text
-unfolding spells escape
-escape-text [] = refl
-escape-text (b ∷ t) =
-    ap (spells Text) (escape-cons b t) ∙ spells-append Text (escape (b ∷ [])) (escape t) ∙ ap (λ (q : Spell). spells q (escape t)) (escape-byte b) ∙ escape-text t
+escape-signs : (t : Bytes) → Signs (escape t) 0 0
+unfolding escape
+escape-signs [] = nil-signs
+escape-signs (b ∷ t) = rw (escape-cons b t) (then (escape-byte b) (escape-signs t))
 
--- bytes that are neither `>` nor `/` stay in the tag
-module _ (p : ℕ → Bool) (g : p (code ">") ≡ false) (h : p (code "/") ≡ false) where
-  no-gt : (b : ℕ) → p b ≡ true → b ≡ code ">" → ⊥
-  no-gt b e d = clash (sym e ∙ ap p d ∙ g)
+-- bytes of which none is `<`, `>` or `&`
+module _ (p : ℕ → Bool) (l : p (code "<") ≡ false) (g : p (code ">") ≡ false) (m : p (code "&") ≡ false) where
+  plain-of : (b : ℕ) → p b ≡ true → Plain b
+  plain-of b e =
+      record {
+        no-amp = λ d. clash (sym e ∙ ap p d ∙ m);
+        no-lt = λ d. clash (sym e ∙ ap p d ∙ l);
+        no-gt = λ d. clash (sym e ∙ ap p d ∙ g);
+      }
 
-  no-slash : (b : ℕ) → p b ≡ true → b ≡ code "/" → ⊥
-  no-slash b e d = clash (sym e ∙ ap p d ∙ h)
+  all-signs : (s : Bytes) → all p s ≡ true → Signs s 0 0
+  unfolding all
+  all-signs [] e = nil-signs
+  all-signs (b ∷ s) e = let x = both-true (p b) (all p s) e in then (plain-signs (plain-of b (x .0))) (all-signs s (x .1))
 
-  stay : (s : Bytes) → all p s ≡ true → spells Tag s ≡ Tag
-  unfolding spells all
-  stay [] e = refl
-  stay (b ∷ s) e =
-      let x = both-true (p b) (all p s) e in
-      ap (λ (q : Spell). spells q s) (tag-other b (no-gt b (x .0)) (no-slash b (x .0))) ∙ stay s (x .1)
+name-lt : isNameByte (code "<") ≡ false
+unfolding bytes-compute
+name-lt = refl
 
 name-gt : isNameByte (code ">") ≡ false
 unfolding bytes-compute
 name-gt = refl
 
-name-slash : isNameByte (code "/") ≡ false
+name-amp : isNameByte (code "&") ≡ false
 unfolding bytes-compute
-name-slash = refl
+name-amp = refl
+
+times-lt : isTimes (code "<") ≡ false
+unfolding bytes-compute
+times-lt = refl
 
 times-gt : isTimes (code ">") ≡ false
 unfolding bytes-compute
 times-gt = refl
 
-times-slash : isTimes (code "/") ≡ false
+times-amp : isTimes (code "&") ≡ false
 unfolding bytes-compute
-times-slash = refl
+times-amp = refl
 
-name-bytes : (b : ℕ) (s : Bytes) → isName (b ∷ s) ≡ true → (isNameByte b ≡ true) × (all isNameByte s ≡ true)
-unfolding isName isValue all
-name-bytes b s e =
-    both-true (isNameByte b) (all isNameByte s) (and-right (leb 1 (suc (length s)) && leb (suc (length s)) 32) (isNameByte b && all isNameByte s) (and-right (isStart b) (isValue (b ∷ s)) e))
+name-bytes : (n : Bytes) → isName n ≡ true → all isNameByte n ≡ true
+unfolding isName isValue
+name-bytes [] e = clash (sym e)
+name-bytes (b ∷ s) e =
+    and-right (leb 1 (suc (length s)) && leb (suc (length s)) 32) (all isNameByte (b ∷ s)) (and-right (isStart b) (isValue (b ∷ s)) e)
 
-name-tag : (n : Bytes) → isName n ≡ true → spells Tag n ≡ Tag
-unfolding spells isName
-name-tag [] e = clash (sym e)
-name-tag (b ∷ s) e =
-    let x = name-bytes b s e in
-    ap (λ (q : Spell). spells q s) (tag-other b (no-gt isNameByte name-gt name-slash b (x .0)) (no-slash isNameByte name-gt name-slash b (x .0)))
-    ∙ stay isNameByte name-gt name-slash s (x .1)
+name-signs : (n : Bytes) → isName n ≡ true → Signs n 0 0
+name-signs n e = all-signs isNameByte name-lt name-gt name-amp n (name-bytes n e)
 
-name-end : (n : Bytes) → isName n ≡ true → spells Slash n ≡ Tag
-unfolding spells isName
-name-end [] e = clash (sym e)
-name-end (b ∷ s) e =
-    let x = name-bytes b s e in
-    ap (λ (q : Spell). spells q s) (slash-other b (no-gt isNameByte name-gt name-slash b (x .0))) ∙ stay isNameByte name-gt name-slash s (x .1)
+-- two `<` and two `>` a tag
+counted : {s : Bytes} {l g : ℕ} (t : ℕ) → Signs s l g → l ≡ 2 * t → g ≡ 2 * t → Signs s (2 * t) (2 * t)
+counted t x e d = record { less = x .less ∙ e; greater = x .greater ∙ d; passes = x .passes }
 
-times-tag : (t : Bytes) → all isTimes t ≡ true → spells Tag t ≡ Tag
-times-tag t e = stay isTimes times-gt times-slash t e
+pub write-signs : (a : Bool) (f : Forest) → Tidy a f → Signs (write f) (2 * tags f) (2 * tags f)
+unfolding write tags
+write-signs a end t = nil-signs
+write-signs a (text b r) t = counted (tags r) (then (escape-signs b) (write-signs a r (t .3))) (omega arith) (omega arith)
+write-signs a (elem n k r) t =
+    let m = name-signs n (t .0) in
+    counted (1 + tags k + tags r)
+    (then (then (then (then (then (then (then less-signs m) greater-signs) (write-signs a k (t .1))) slash-signs) m) greater-signs) (write-signs a r (t .2)))
+    (omega arith) (omega arith)
+write-signs a (stamp u k r) t =
+    let m = all-signs isTimes times-lt times-gt times-amp u (t .1) in
+    counted (1 + tags k + tags r)
+    (then (then (then (then (then times-signs m) quote-signs) (write-signs a k (t .2))) close-signs) (write-signs a r (t .3)))
+    (omega arith) (omega arith)
 
--- ---- from place to place
-pub record Leads (q : Spell) (s : Bytes) (r : Spell) : Type 0 where
-  pub leads : spells q s ≡ r
+-- ---- a text, and what it is written as: never more `<`; for each `<` that is missing at most one `>` is; and the same where none is missing
+pub record Told (s w : Bytes) : Type 0 where
+  pub most : count (code "<") s ≤ count (code "<") w
+  pub least : count (code "<") s + count (code ">") w ≤ count (code ">") s + count (code "<") w
+  pub is : (u : Bytes) → others (s ++ u) ≡ false → count (code "<") s ≡ count (code "<") w → count (code ">") s ≡ count (code ">") w → s ≡ w
 
-then : {q r u : Spell} {s t : Bytes} → Leads q s r → Leads r t u → Leads q (s ++ t) u
-then {q} {s = s} {t = t} x y = record { leads = spells-append q s t ∙ ap (λ (z : Spell). spells z t) (x .leads) ∙ y .leads }
+fixed : (s : Bytes) → Told s s
+fixed s = record { most = omega arith; least = omega arith; is = λ u o l g. refl }
 
-so : {q r : Spell} {s : Bytes} → spells q s ≡ r → Leads q s r
-so e = record { leads = e }
-
-lost : {s : Bytes} → Leads Otherwise s Otherwise
-lost {s} = record { leads = spells-otherwise s }
-
-less : Leads Text (bytes "<") Tag
-unfolding spells spell bytes
-less = so refl
-
-greater : Leads Tag (bytes ">") Text
-unfolding spells spell bytes
-greater = so refl
-
-less-slash : Leads Text (bytes "</") Slash
-unfolding spells spell bytes
-less-slash = so refl
-
-slash-greater : Leads Tag (bytes "/>") Otherwise
-unfolding spells spell bytes
-slash-greater = so refl
-
-less-times : Leads Text (bytes "<T t=\"") Tag
-unfolding spells spell bytes
-less-times = so refl
-
-quote-greater : Leads Tag (bytes "\">") Text
-unfolding spells spell bytes
-quote-greater = so refl
-
-times-end : Leads Text (bytes "</T>") Text
-unfolding spells spell bytes
-times-end = so refl
-
-stays : {q : Spell} → Leads q [] q
-unfolding spells
-stays = so refl
-
--- tags around a text that leaves us in text, or otherwise
-module _ (n : Bytes) {s : Bytes} (e : isName n ≡ true) where
-  element-text : Leads Text s Text → Leads Text (bytes "<" ++ n ++ bytes ">" ++ s ++ bytes "</" ++ n ++ bytes ">") Text
-  element-text h = then (then (then (then (then (then less (so (name-tag n e))) greater) h) less-slash) (so (name-end n e))) greater
-
-  element-other : Leads Text s Otherwise → Leads Text (bytes "<" ++ n ++ bytes ">" ++ s ++ bytes "</" ++ n ++ bytes ">") Otherwise
-  element-other h = then (then (then (then (then (then less (so (name-tag n e))) greater) h) lost) lost) lost
-
-lone-other : (n : Bytes) → isName n ≡ true → Leads Text (bytes "<" ++ n ++ bytes "/>") Otherwise
-lone-other n e = then (then less (so (name-tag n e))) slash-greater
-
-module _ (t : Bytes) {s : Bytes} (e : all isTimes t ≡ true) where
-  times-text : Leads Text s Text → Leads Text (bytes "<T t=\"" ++ t ++ bytes "\">" ++ s ++ bytes "</T>") Text
-  times-text h = then (then (then (then less-times (so (times-tag t e))) quote-greater) h) times-end
-
-  times-other : Leads Text s Otherwise → Leads Text (bytes "<T t=\"" ++ t ++ bytes "\">" ++ s ++ bytes "</T>") Otherwise
-  times-other h = then (then (then (then less-times (so (times-tag t e))) quote-greater) h) lost
-
-pub write-leads : (a : Bool) (f : Forest) → Tidy a f → Leads Text (write f) Text
-unfolding write
-write-leads a end t = stays
-write-leads a (text b r) t = then (so (escape-text b)) (write-leads a r (t .3))
-write-leads a (elem n k r) t = then (element-text n (t .0) (write-leads a k (t .1))) (write-leads a r (t .2))
-write-leads a (stamp u k r) t = then (times-text u (t .1) (write-leads a k (t .2))) (write-leads a r (t .3))
-
--- ---- what is read is neat where it is as written: a text, and what it is written as
-pub data Neatly (s w : Bytes) : Type 0 where
-  right : Leads Text s Text → s ≡ w → Neatly s w
-  other : Leads Text s Otherwise → Neatly s w
-
-neatly-then : {s w u v : Bytes} → Neatly s w → Neatly u v → Neatly (s ++ u) (w ++ v)
-neatly-then (right e d) (right e′ d′) = right (then e e′) (ap₂ (λ (x y : Bytes). x ++ y) d d′)
-neatly-then (right e d) (other e′) = other (then e e′)
-neatly-then (other e) y = other (then e lost)
-
-entity-neatly : {e : Bytes} {c : ℕ} (s t : Bytes) → Entity e c → Neatly s (escape t) → Neatly (e ++ s) (escape (c ∷ t))
-unfolding spells spell escape bytes
-entity-neatly s t lt (right h d) = right (so (h .leads)) (ap (λ (x : Bytes). bytes "&lt;" ++ x) d)
-entity-neatly s t lt (other h) = other (so (h .leads))
-entity-neatly s t gt (right h d) = right (so (h .leads)) (ap (λ (x : Bytes). bytes "&gt;" ++ x) d)
-entity-neatly s t gt (other h) = other (so (h .leads))
-entity-neatly s t amp (right h d) = right (so (h .leads)) (ap (λ (x : Bytes). bytes "&amp;" ++ x) d)
-entity-neatly s t amp (other h) = other (so (h .leads))
-entity-neatly s t quot x = other (so (spells-otherwise (bytes "uot;" ++ s)))
-entity-neatly s t apos x = other (so (spells-otherwise (bytes "os;" ++ s)))
-
-plain-leads : {b : ℕ} {s : Bytes} {r : Spell} → Plain b → Leads Text s r → Leads Text (b ∷ s) r
-unfolding spells
-plain-leads {b} {s} p h = so (ap (λ (q : Spell). spells q s) (text-plain b p) ∙ h .leads)
-
-greater-leads : {b : ℕ} {s : Bytes} → b ≡ code ">" → Leads Text (b ∷ s) Otherwise
-unfolding spells
-greater-leads {b} {s} e = so (ap (λ (q : Spell). spells q s) (text-gt b e) ∙ spells-otherwise s)
-
-kept-neatly : (b : ℕ) (s t : Bytes) → isCharacter b ≡ true → Neatly s (escape t) → Neatly (b ∷ s) (escape (b ∷ t))
-kept-neatly b s t e x = by-test (eqb b (code ">")) (λ g. other (greater-leads (eqb-true b (code ">") g))) (λ g. plain (eqb-false b (code ">") g) x)
+told-then : {s w u v : Bytes} → Told s w → Told u v → Told (s ++ u) (w ++ v)
+told-then {s} {w} {u} {v} x y =
+    record {
+      most = omega (arith, x .most, y .most, ls, lw);
+      least = omega (arith, x .least, y .least, ls, lw, gs, gw);
+      is = λ t o l g.
+          let o₁ : others (s ++ (u ++ t)) ≡ false = ap others (sym (append-assoc s u t)) ∙ o in
+          ap₂ (λ (a b : Bytes). a ++ b)
+          (x .is (u ++ t) o₁ (omega (arith, x .most, y .most, ls, lw)) (omega (arith, x .most, x .least, y .most, y .least, ls, lw, gs, gw)))
+          (y .is t (others-right s (u ++ t) o₁) (omega (arith, x .most, y .most, ls, lw)) (omega (arith, x .most, x .least, y .most, y .least, ls, lw, gs, gw)));
+    }
   where
-    self : (b ≡ code ">" → ⊥) → Plain b
-    self g = record { no-amp = character-not b (code "&") amp-markup e; no-lt = character-not b (code "<") lt-markup e; no-gt = g }
+    ls : count (code "<") (s ++ u) ≡ count (code "<") s + count (code "<") u
+    ls = count-append (code "<") s u
 
-    plain : (b ≡ code ">" → ⊥) → Neatly s (escape t) → Neatly (b ∷ s) (escape (b ∷ t))
-    plain g (right h d) =
-        let p = self g in
-        right (plain-leads p h) (ap (λ (y : Bytes). b ∷ y) d ∙ sym (escape-plain b t (p .no-amp) (p .no-lt) (p .no-gt)))
-    plain g (other h) = other (plain-leads (self g) h)
+    lw : count (code "<") (w ++ v) ≡ count (code "<") w + count (code "<") v
+    lw = count-append (code "<") w v
 
-characters-neatly : {s t : Bytes} → Characters s t → Neatly s (escape t)
+    gs : count (code ">") (s ++ u) ≡ count (code ">") s + count (code ">") u
+    gs = count-append (code ">") s u
+
+    gw : count (code ">") (w ++ v) ≡ count (code ">") w + count (code ">") v
+    gw = count-append (code ">") w v
+
+-- an entity that is never written
+never : {s w : Bytes} → ((u : Bytes) → others (s ++ u) ≡ true) → count (code "<") s ≡ count (code "<") w → count (code ">") s ≡ count (code ">") w → Told s w
+never o l g = record { most = omega arith; least = omega arith; is = λ u d l g. clash (sym (o u) ∙ d) }
+
+entity-told : {e : Bytes} {c : ℕ} → Entity e c → Told e (escape (c ∷ []))
+unfolding escape bytes others count
+entity-told lt = fixed (bytes "&lt;")
+entity-told gt = fixed (bytes "&gt;")
+entity-told amp = fixed (bytes "&amp;")
+entity-told quot = never (λ u. refl) refl refl
+entity-told apos = never (λ u. refl) refl refl
+
+bare-told : {b : ℕ} → b ≡ code ">" → Told (b ∷ []) (escape (b ∷ []))
+unfolding escape bytes count
+bare-told e = rw e (record { most = omega arith; least = omega arith; is = λ u o l g. absurd (omega arith) })
+
+kept-told : (b : ℕ) → isCharacter b ≡ true → Told (b ∷ []) (escape (b ∷ []))
+kept-told b e =
+    by-test (eqb b (code ">")) (λ g. bare-told (eqb-true b (code ">") g))
+    (λ g. rw (escape-one b (record { no-amp = character-not b (code "&") amp-markup e; no-lt = character-not b (code "<") lt-markup e; no-gt = eqb-false b (code ">") g })) (fixed (b ∷ [])))
+
+characters-told : {s t : Bytes} → Characters s t → Told s (escape t)
 unfolding escape
-characters-neatly none = right stays refl
-characters-neatly (kept {b = b} {s = s} {t = t} e c) = kept-neatly b s t e (characters-neatly c)
-characters-neatly (entity {s = s} {t = t} e r) = entity-neatly s t e (characters-neatly r)
+characters-told none = fixed []
+characters-told (kept {b = b} {t = t} e c) = rw (escape-cons b t) (told-then (kept-told b e) (characters-told c))
+characters-told (entity {c = c} {t = t} e r) = rw (escape-cons c t) (told-then (entity-told e) (characters-told r))
 
-element-neatly : (n : Bytes) {s w : Bytes} → isName n ≡ true → Neatly s w
-    → Neatly (bytes "<" ++ n ++ bytes ">" ++ s ++ bytes "</" ++ n ++ bytes ">") (bytes "<" ++ n ++ bytes ">" ++ w ++ bytes "</" ++ n ++ bytes ">")
-element-neatly n e (right h d) = right (element-text n e h) (ap (λ (x : Bytes). bytes "<" ++ n ++ bytes ">" ++ x ++ bytes "</" ++ n ++ bytes ">") d)
-element-neatly n e (other h) = other (element-other n e h)
+fewer : {s w : Bytes} → Signs s 1 1 → Signs w 2 2 → Told s w
+fewer x y = record { most = omega arith; least = omega arith; is = λ u o l g. absurd (omega arith) }
 
-times-neatly : (t : Bytes) {s w : Bytes} → all isTimes t ≡ true → Neatly s w
-    → Neatly (bytes "<T t=\"" ++ t ++ bytes "\">" ++ s ++ bytes "</T>") (bytes "<T t=\"" ++ t ++ bytes "\">" ++ w ++ bytes "</T>")
-times-neatly t e (right h d) = right (times-text t e h) (ap (λ (x : Bytes). bytes "<T t=\"" ++ t ++ bytes "\">" ++ x ++ bytes "</T>") d)
-times-neatly t e (other h) = other (times-other t e h)
+lone-told : (n : Bytes) → isName n ≡ true → Told (bytes "<" ++ n ++ bytes "/>") (bytes "<" ++ n ++ bytes ">" ++ [] ++ bytes "</" ++ n ++ bytes ">")
+lone-told n e =
+    let m = name-signs n e in
+    fewer (then (then less-signs m) lone-signs) (then (then (then (then (then (then less-signs m) greater-signs) nil-signs) slash-signs) m) greater-signs)
 
-pub content-neatly : {a : Bool} {s : Bytes} {f : Forest} → Content a s f → Neatly s (write f)
+pub content-told : {a : Bool} {s : Bytes} {f : Forest} → Content a s f → Told s (write f)
 unfolding write
-content-neatly nothing = right stays refl
-content-neatly (run c e o n r) = neatly-then (characters-neatly c) (content-neatly r)
-content-neatly (element {n = n} e c r) = neatly-then (element-neatly n e (content-neatly c)) (content-neatly r)
-content-neatly (lone {n = n} e r) = other (then (lone-other n e) lost)
-content-neatly (times {t = t} a e c r) = neatly-then (times-neatly t e (content-neatly c)) (content-neatly r)
+content-told nothing = fixed []
+content-told (run c e o n r) = told-then (characters-told c) (content-told r)
+content-told (element {n = n} e c r) =
+    told-then (told-then (told-then (told-then (told-then (fixed (bytes "<" ++ n ++ bytes ">")) (content-told c)) (fixed (bytes "</"))) (fixed n)) (fixed (bytes ">"))) (content-told r)
+content-told (lone {n = n} e r) = told-then (lone-told n e) (content-told r)
+content-told (times {t = t} a e c r) =
+    told-then (told-then (told-then (fixed (bytes "<T t=\"" ++ t ++ bytes "\">")) (content-told c)) (fixed (bytes "</T>"))) (content-told r)

@@ -16,7 +16,7 @@ use Rattle.xml.specs.Read.{entityAt, unescape}
 use Rattle.xml.specs.ScanLaws.{foundLen, entity-fits}
 use Rattle.xml.specs.Signs.{spelt, isMarked, plainLen, signFound, signAt}
 use Rattle.xml.specs.TapeLaws.{slice-part, length-escape, length-unescape}
-use Rattle.xml.specs.Truth.{or-both, or-left, or-right, by-test}
+use Rattle.xml.specs.Truth.{or-left, or-right, by-test}
 use Rattle.xml.specs.declared.Found.{Found}
 use Rattle.xml.specs.declared.Found.the-variants.{Hit, Miss}
 use Rattle.xml.specs.declared.text.Sign.{Sign}
@@ -137,14 +137,7 @@ pub record Plain (b : ℕ) : Type 0 where
   pub no-lt : b ≡ code "<" → ⊥
   pub no-gt : b ≡ code ">" → ⊥
 
-pub marked-not : (b : ℕ) → Plain b → isMarked b ≡ false
-unfolding isMarked
-marked-not b p =
-    or-both (eqb b (code "&") || eqb b (code "<")) (eqb b (code ">"))
-    (or-both (eqb b (code "&")) (eqb b (code "<")) (ne-eqb b (code "&") (p .no-amp)) (ne-eqb b (code "<") (p .no-lt)))
-    (ne-eqb b (code ">") (p .no-gt))
-
-not-marked : (b : ℕ) → isMarked b ≡ false → Plain b
+pub not-marked : (b : ℕ) → isMarked b ≡ false → Plain b
 unfolding isMarked
 not-marked b e =
     let l = or-left (eqb b (code "&") || eqb b (code "<")) (eqb b (code ">")) e in
@@ -177,18 +170,6 @@ spelt-plain (b ∷ s) =
     rw (plain-on b s e)
     (ap escape (unescape-plain b s (p .no-amp)) ∙ escape-plain b (unescape 0 s) (p .no-amp) (p .no-lt) (p .no-gt) ∙ ap (λ (x : Bytes). b ∷ x) (spelt-plain s)))
 
-pub marked-amp : (b : ℕ) → b ≡ code "&" → isMarked b ≡ true
-unfolding isMarked
-marked-amp b e = rw e
-
-pub marked-lt : (b : ℕ) → b ≡ code "<" → isMarked b ≡ true
-unfolding isMarked
-marked-lt b e = rw e
-
-pub marked-gt : (b : ℕ) → b ≡ code ">" → isMarked b ≡ true
-unfolding isMarked
-marked-gt b e = rw e
-
 -- how far bytes are written as they stand, at a place of a text
 pub plain-over : (src : Bytes) (e : ℕ) → plainLen (slice e e src) ≡ 0
 unfolding plainLen
@@ -198,8 +179,8 @@ module _ (src : Bytes) (j e : ℕ) (h : j < e) (k : e ≤ length src) where
   pub plain-stop : isMarked (getD src j 0) ≡ true → plainLen (slice j e src) ≡ 0
   plain-stop t = rw (slice-first j e src h k) (plain-off (getD src j 0) (slice (j + 1) e src) t)
 
-  pub plain-step : Plain (getD src j 0) → plainLen (slice j e src) ≡ suc (plainLen (slice (j + 1) e src))
-  plain-step p = rw (slice-first j e src h k) (plain-on (getD src j 0) (slice (j + 1) e src) (marked-not (getD src j 0) p))
+  pub plain-step : isMarked (getD src j 0) ≡ false → plainLen (slice j e src) ≡ suc (plainLen (slice (j + 1) e src))
+  plain-step p = rw (slice-first j e src h k) (plain-on (getD src j 0) (slice (j + 1) e src) p)
 
 -- ---- one byte of text
 pub escape-one : (b : ℕ) → Plain b → escape (b ∷ []) ≡ b ∷ []

@@ -2,13 +2,12 @@
 use Prim.Native.Char.{code}
 use Prim.Native.Nat.{ℕ, _+_, _<_, _≤_}
 use mathlib.Core.Path.{_≡_, refl, ap, sym, _∙_}
-use mathlib.Core.Bool.{Bool, true, false, _&&_, _||_}
+use mathlib.Core.Bool.{Bool, true, false, _&&_}
 use mathlib.Core.List.{[], _∷_}
 use native.Mathlib.Omega.{arith}
-use borrow.Author.Tests.{eq-eqb, ne-eqb, le-leb, lt-leb}
-use lib.Dec.{leb}
+use borrow.Author.Tests.{eq-eqb}
 use lib.ListN.{length, take, drop, getD}
-use Rattle.xml.specs.Bytes.{Bytes, bytes, same, sameBy, isTimes, bytes-compute}
+use Rattle.xml.specs.Bytes.{Bytes, bytes, same, sameBy}
 use Rattle.xml.specs.Forest.{Forest, end, elem, join}
 use Rattle.xml.specs.Read.{common, nameLen, timesLen, Tag, named, timed, tagName, tagNode, Stack, inside, Move, move, wrong, startOf, startTag, timesOf, timesEnd, endOf, endTag}
 use Rattle.xml.specs.declared.Run.{Run}
@@ -54,28 +53,6 @@ EndNamed name s r = (o : Tag) → tagName o ≡ name → Ends o s r
 -- whichever tag has a node of this kind, named by these bytes
 abbrev pub EndRead : ℕ → Bytes → Bytes → Run → Type 0
 EndRead kind name s r = (o : Tag) → tagKind o ≡ kind → tagBytes o ≡ name → Ends o s r
-
--- ---- a byte of times
-module _ (b : ℕ) where
-  pub times-dash : b ≡ code "-" → isTimes b ≡ true
-  unfolding bytes-compute
-  times-dash e = rw e
-
-  pub times-comma : b ≡ code "," → isTimes b ≡ true
-  unfolding bytes-compute
-  times-comma e = rw e
-
-  pub times-low : (b ≡ code "-" → ⊥) → (b ≡ code "," → ⊥) → b < code "0" → isTimes b ≡ false
-  unfolding bytes-compute
-  times-low d m h = rw (lt-leb (code "0") b h, ne-eqb b (code "-") d, ne-eqb b (code ",") m)
-
-  pub times-digit : (b ≡ code "-" → ⊥) → (b ≡ code "," → ⊥) → code "0" ≤ b → isTimes b ≡ leb b (code "9")
-  unfolding bytes-compute
-  times-digit d m h = rw (le-leb (code "0") b h, ne-eqb b (code "-") d, ne-eqb b (code ",") m) (or-none (leb b (code "9")))
-    where
-      or-none : (x : Bool) → (x || false) ≡ x
-      or-none true = refl
-      or-none false = refl
 
 -- ---- a start tag, by the length of its name
 module _ (a : Bool) (s : Bytes) {n : ℕ} (len : n ≡ nameLen s) where

@@ -1,6 +1,6 @@
 // "Each byte has one class, found in a table of 256 entries."
 ghost use mathlib.Core.Path.{_≡_};
-ghost use Rattle.xml.specs.Bytes.{classOf, isLetter, isDigit, isWhite, isStart, isNameByte};
+ghost use Rattle.xml.specs.Bytes.{classOf, isWhite, isStart, isNameByte};
 ghost use Rattle.xml.specs.ClassNumber.{classNumber};
 
 // 0 illegal, 1 white space, 2 name start, 3 other name byte, 4 markup, 5 other text.
@@ -270,56 +270,42 @@ pub fn class(b: u8) -> u8
     CLASS[b as usize]
 }
 
-// A letter.
-fn is_letter(b: u8) -> bool
-    ensures { λ r. ⌜ r ≡ isLetter b ⌝ }
-{
-    if b < b'A' {
-        return false;
-    }
-    if b <= b'Z' {
-        return true;
-    }
-    if b < b'a' {
-        return false;
-    }
-    b <= b'z'
-}
-
-// A digit.
-fn is_digit(b: u8) -> bool
-    ensures { λ r. ⌜ r ≡ isDigit b ⌝ }
-{
-    if b < b'0' {
-        return false;
-    }
-    b <= b'9'
-}
-
-// A byte that starts a name; the table is not asked of a letter.
+// A byte that starts a name: a letter or `_`.
 pub fn is_name_start(b: u8) -> bool
     ensures { λ r. ⌜ r ≡ isStart b ⌝ }
 {
-    if is_letter(b) {
+    if b'a' <= b {
+        return b <= b'z';
+    }
+    if b == b'_' {
         return true;
     }
-    class(b) == 2
+    if b < b'A' {
+        return false;
+    }
+    b <= b'Z'
 }
 
-// A byte of a name; the table is not asked of a letter, a digit, or the `>` that ends a tag.
+// A byte of a name: a letter, a digit, `_`, `-` or `.`.
 pub fn is_name_byte(b: u8) -> bool
     ensures { λ r. ⌜ r ≡ isNameByte b ⌝ }
 {
-    if is_letter(b) {
+    if b'a' <= b {
+        return b <= b'z';
+    }
+    if b'A' <= b {
+        if b <= b'Z' {
+            return true;
+        }
+        return b == b'_';
+    }
+    if b'0' <= b {
+        return b <= b'9';
+    }
+    if b == b'-' {
         return true;
     }
-    if is_digit(b) {
-        return true;
-    }
-    if b == b'>' {
-        return false;
-    }
-    class(b) / 2 == 1
+    b == b'.'
 }
 
 // A byte of white space; the table is not asked of a space, a line feed, or a byte above the space.

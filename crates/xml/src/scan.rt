@@ -6,13 +6,16 @@ use crate::Start;
 use crate::class::class;
 use crate::class::is_name_byte;
 use crate::class::is_name_start;
+use crate::text::is_marked;
 ghost use mathlib.Core.Path.{_≡_};
+ghost use mathlib.Core.Bool.{true, false, not};
 ghost use Prim.Native.Nat.{ℕ, _+_, _<_, _≤_, max};
 ghost use lib.ListN.{length, drop, getD};
 ghost use lib.Seq.{slice};
 ghost use Rattle.xml.specs.ByteTests.{isPlain};
 ghost use Rattle.xml.specs.Bytes.{isTimes};
 ghost use Rattle.xml.specs.Read.{common, nameRest, nameLen, timesLen, entityAt, textByte, scan as scanned};
+ghost use Rattle.xml.specs.Stretch.{Each, Passed, Times, isFar, bracketsAfter};
 ghost use Rattle.xml.specs.Tokens.{TimesRead, StartRead, EndRead, EndNamed};
 
 // The byte at a place; the end of the text counts as a byte 0.
@@ -50,35 +53,68 @@ pub fn name_len(src: &[u8], at: usize) -> usize
     1 + name_rest(src, at + 1)
 }
 
-// A byte of a timestamp: a digit, `-` or `,`.
-fn is_times(b: u8) -> bool
-    ensures { λ r. ⌜ r ≡ isTimes b ⌝ }
+// A byte that is none of a timestamp, whose bytes are digits, `-` and `,`; told without a branch.
+fn is_foreign(b: u8) -> bool
+    ensures { λ r. ⌜ r ≡ not (isTimes b) ⌝ }
 {
-    if b == b'-' {
-        return true;
-    }
-    if b == b',' {
-        return true;
-    }
-    if b < b'0' {
-        return false;
-    }
-    b <= b'9'
+    (b < b',') | (b'9' < b) | (b == b'.') | (b == b'/')
 }
 
-// How many bytes of times stand at a place.
+// Whether one of sixteen bytes is none of a timestamp; without a branch, so that they are compared at once.
+fn has_foreign(src: &[u8], at: usize) -> bool
+    requires { ⌜ at + 16 ≤ length (now src) ⌝ }
+    ensures { λ r. ⌜ (r ≡ false → Each isTimes true (now (src .entry)) at (at + 16)) ⌝ }
+{
+    let mut hit = false;
+    for i in 0..16 {
+        hit = hit | is_foreign(src[at + i]);
+    }
+    hit
+}
+
+// A place up to which the text has bytes of times alone, from a place on: blocks of sixteen.
+fn times_blocks(src: &[u8], at: usize) -> usize
+    requires { ⌜ at ≤ length (now src) ⌝ }
+    ensures { λ r. ⌜ Passed isTimes true (now (src .entry)) at (length (now (src .entry))) r ⌝ }
+{
+    let mut j = at;
+    while 16 <= src.len() - j {
+        if has_foreign(src, j) {
+            return j;
+        }
+        j += 16;
+    }
+    j
+}
+
+// The first place of src[at..e] whose byte is not of times, or e: byte by byte.
+fn times_bytes(src: &[u8], at: usize, e: usize) -> usize
+    requires { ⌜ (at ≤ e) × (e ≤ length (now src)) ⌝ }
+    ensures { λ r. ⌜ Times (now (src .entry)) at e r ⌝ }
+{
+    let mut j = at;
+    while j < e {
+        if is_foreign(src[j]) {
+            return j;
+        }
+        j += 1;
+    }
+    j
+}
+
+// How many bytes of times stand at a place: sixteen are told one by one, then blocks, then one by one.
 fn times_len(src: &[u8], at: usize) -> usize
     requires { ⌜ at ≤ length (now src) ⌝ }
     ensures { λ r. ⌜ r ≡ timesLen (drop at (now (src .entry))) ⌝ }
 {
-    let mut n = 0;
-    while at + n < src.len() {
-        if !is_times(src[at + n]) {
-            return n;
-        }
-        n += 1;
+    if src.len() - at <= 16 {
+        return times_bytes(src, at, src.len()) - at;
     }
-    n
+    let j = times_bytes(src, at, at + 16);
+    if j < at + 16 {
+        return j - at;
+    }
+    times_bytes(src, times_blocks(src, j), src.len()) - at
 }
 
 // How many bytes at a place agree with a word.
@@ -134,36 +170,97 @@ pub fn entity_at(src: &[u8], at: usize) -> Found
 fn is_plain(b: u8) -> bool
     ensures { λ r. ⌜ r ≡ isPlain b ⌝ }
 {
+    if b'>' < b {
+        if b == b']' {
+            return false;
+        }
+        return b <= 126;
+    }
+    if b'<' <= b {
+        return b == b'=';
+    }
+    if b'&' < b {
+        return true;
+    }
     if b < 32 {
         return b == b'\n';
     }
-    if 126 < b {
-        return false;
-    }
-    if b == b'<' {
-        return false;
-    }
-    if b == b'&' {
-        return false;
-    }
-    if b == b']' {
-        return false;
-    }
-    if b == b'>' {
-        return false;
-    }
-    true
+    b != b'&'
 }
 
-// What a byte of a text means, after q times `]`; the table is asked of the bytes that neither are plain nor mean something here.
+// A byte that is not one of 32 to 126, or is `]`; told without a branch.
+fn is_far(b: u8) -> bool
+    ensures { λ r. ⌜ r ≡ isFar b ⌝ }
+{
+    (b < 32) | (126 < b) | (b == b']')
+}
+
+// Whether one of sixteen bytes is marked or far; without a branch, so that they are compared at once.
+fn has_other(src: &[u8], at: usize) -> bool
+    requires { ⌜ at + 16 ≤ length (now src) ⌝ }
+    ensures { λ r. ⌜ (r ≡ false → Each isPlain true (now (src .entry)) at (at + 16)) ⌝ }
+{
+    let mut hit = false;
+    let mut far = false;
+    for i in 0..16 {
+        let b = src[at + i];
+        hit = hit | is_marked(b);
+        far = far | is_far(b);
+    }
+    hit | far
+}
+
+// A place up to which the text has plain bytes alone, from a place on: blocks of sixteen.
+fn plain_blocks(src: &[u8], at: usize) -> usize
+    requires { ⌜ at ≤ length (now src) ⌝ }
+    ensures { λ r. ⌜ Passed isPlain true (now (src .entry)) at (length (now (src .entry))) r ⌝ }
+{
+    let mut j = at;
+    while 16 <= src.len() - j {
+        if has_other(src, j) {
+            return j;
+        }
+        j += 16;
+    }
+    j
+}
+
+// The first place of src[at..e] whose byte is not plain, or e: byte by byte.
+fn plain_bytes(src: &[u8], at: usize, e: usize) -> usize
+    requires { ⌜ (at ≤ e) × (e ≤ length (now src)) ⌝ }
+    ensures { λ r. ⌜ Passed isPlain true (now (src .entry)) at e r ⌝ }
+{
+    let mut j = at;
+    while j < e {
+        if !is_plain(src[j]) {
+            return j;
+        }
+        j += 1;
+    }
+    j
+}
+
+// A place up to which the text has plain bytes alone, from a place on: sixteen one by one, then blocks, then one by one.
+fn plain_run(src: &[u8], at: usize) -> usize
+    requires { ⌜ at ≤ length (now src) ⌝ }
+    ensures { λ r. ⌜ Passed isPlain true (now (src .entry)) at (length (now (src .entry))) r ⌝ }
+{
+    if src.len() - at <= 16 {
+        return plain_bytes(src, at, src.len());
+    }
+    let j = plain_bytes(src, at, at + 16);
+    if j < at + 16 {
+        return j;
+    }
+    plain_bytes(src, plain_blocks(src, j), src.len())
+}
+
+// What a byte of a text means, after q times `]`; the table is asked of the bytes that mean nothing here.
 fn text_byte(src: &[u8], at: usize, q: usize) -> Next
     requires { ⌜ (at < length (now src)) × (q ≤ at) ⌝ }
     ensures { λ r. ⌜ r ≡ textByte q (getD (now (src .entry)) at 0) (drop (at + 1) (now (src .entry))) ⌝ }
 {
     let b = src[at];
-    if is_plain(b) {
-        return Next::On(0, 0);
-    }
     if b == b'<' {
         return Next::Over;
     }
@@ -188,24 +285,32 @@ fn text_byte(src: &[u8], at: usize, q: usize) -> Next
     Next::On(0, 0)
 }
 
+// How many times `]` stand before a place, where there were q before the plain bytes that lead to it.
+fn brackets(q: usize, from: usize, to: usize) -> usize
+    ensures { λ r. ⌜ r ≡ bracketsAfter q from to ⌝ }
+{
+    if from < to { 0 } else { q }
+}
+
 // How far a run of text goes.
 pub(crate) fn text_run(src: &[u8], at: usize) -> Run
     requires { ⌜ at ≤ length (now src) ⌝ }
     ensures { λ r. ⌜ r ≡ scanned 0 0 0 (drop at (now (src .entry))) ⌝ }
 {
-    let mut n = 0;
+    let mut j = plain_run(src, at);
     let mut q = 0;
-    while at + n < src.len() {
-        match text_byte(src, at + n, q) {
-            Next::Over => return Run::Upto(n),
-            Next::Off(k) => return Run::Stop(n + k),
+    while j < src.len() {
+        match text_byte(src, j, q) {
+            Next::Over => return Run::Upto(j - at),
+            Next::Off(k) => return Run::Stop(j - at + k),
             Next::On(k, r) => {
-                n = n + 1 + k;
-                q = r;
+                let from = j + 1 + k;
+                j = plain_run(src, from);
+                q = brackets(r, from, j);
             }
         }
     }
-    Run::Upto(n)
+    Run::Upto(j - at)
 }
 
 // An archive's start tag after its `<T`.

@@ -2,10 +2,12 @@
 use crate::Found;
 use crate::scan::entity_at;
 ghost use mathlib.Core.Path.{_≡_};
+ghost use mathlib.Core.Bool.{false};
 ghost use Prim.Native.Nat.{_+_, _<_, _≤_};
 ghost use lib.ListN.{length};
 ghost use lib.Seq.{slice};
-ghost use Rattle.xml.specs.Signs.{plainLen, signAt};
+ghost use Rattle.xml.specs.Signs.{isMarked, plainLen, signAt};
+ghost use Rattle.xml.specs.Stretch.{Each, Passed};
 
 // The byte that is meant at a place of a run, and the place after what stands for it.
 pub struct Sign {
@@ -37,24 +39,59 @@ pub fn sign_at(src: &[u8], i: usize, e: usize) -> Sign
     }
 }
 
-// The first place of src[i..e] whose byte is not written as it stands, or e.
-pub fn plain_end(src: &[u8], i: usize, e: usize) -> usize
+// A byte that begins an entity or is written as one; told without a branch.
+pub(crate) fn is_marked(b: u8) -> bool
+    ensures { λ r. ⌜ r ≡ isMarked b ⌝ }
+{
+    (b == b'&') | (b == b'<') | (b == b'>')
+}
+
+// Whether one of sixteen bytes is marked; without a branch, so that they are compared at once.
+fn has_marked(src: &[u8], at: usize) -> bool
+    requires { ⌜ at + 16 ≤ length (now src) ⌝ }
+    ensures { λ r. ⌜ (r ≡ false → Each isMarked false (now (src .entry)) at (at + 16)) ⌝ }
+{
+    let mut hit = false;
+    for i in 0..16 {
+        hit = hit | is_marked(src[at + i]);
+    }
+    hit
+}
+
+// A place up to which no byte of src[i..e] is marked: blocks of sixteen.
+fn plain_blocks(src: &[u8], i: usize, e: usize) -> usize
+    requires { ⌜ (i ≤ e) × (e ≤ length (now src)) ⌝ }
+    ensures { λ r. ⌜ Passed isMarked false (now (src .entry)) i e r ⌝ }
+{
+    let mut j = i;
+    while 16 <= e - j {
+        if has_marked(src, j) {
+            return j;
+        }
+        j += 16;
+    }
+    j
+}
+
+// The first place of src[i..e] whose byte is marked, or e: byte by byte.
+fn plain_bytes(src: &[u8], i: usize, e: usize) -> usize
     requires { ⌜ (i ≤ e) × (e ≤ length (now src)) ⌝ }
     ensures { λ r. ⌜ r ≡ i + plainLen (slice i e (now (src .entry))) ⌝ }
 {
     let mut j = i;
     while j < e {
-        let b = src[j];
-        if b == b'&' {
-            return j;
-        }
-        if b == b'<' {
-            return j;
-        }
-        if b == b'>' {
+        if is_marked(src[j]) {
             return j;
         }
         j += 1;
     }
     j
+}
+
+// The first place of src[i..e] whose byte is not written as it stands, or e: whole blocks first, then byte by byte.
+pub fn plain_end(src: &[u8], i: usize, e: usize) -> usize
+    requires { ⌜ (i ≤ e) × (e ≤ length (now src)) ⌝ }
+    ensures { λ r. ⌜ r ≡ i + plainLen (slice i e (now (src .entry))) ⌝ }
+{
+    plain_bytes(src, plain_blocks(src, i, e), e)
 }

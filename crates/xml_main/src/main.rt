@@ -1,7 +1,9 @@
 // Runs texts through the panel's face, and writes each one's canonical form, or why it has none.
 use libc::STDOUT_FILENO;
+use xml::Reply;
 use xml::panel::Canon;
 use xml::panel::canonical;
+use xml::reader::read;
 use xml::spelling::spelled;
 ghost use mathlib.Core.Path.{_≡_};
 ghost use Prim.Native.Nat.{_≤_};
@@ -32,6 +34,19 @@ fn bytes_256() -> [u8; 256]
     [46; 256]
 }
 
+// Whether a version's text is spelled as it is written.
+fn is_spelled(text: &[u8]) -> bool {
+    if 16384 < text.len() {
+        return false;
+    }
+    let mut tape = cells_256();
+    match read(text, false, &mut tape) {
+        Reply::Done(hi) => spelled(text, &tape, hi),
+        Reply::Wrong(p) => false,
+        Reply::Full => false,
+    }
+}
+
 // The form of a text, or the refusal, with so many cells of a tape and so many bytes of an output.
 fn show(text: &[u8], cells: usize, room: usize)
     requires { ⌜ (cells ≤ 256) × (room ≤ 256) ⌝ }
@@ -40,7 +55,7 @@ fn show(text: &[u8], cells: usize, room: usize)
     let mut out = bytes_256();
     match canonical(text, &mut tape[..cells], &mut out[..room]) {
         Canon::Done(n) => {
-            mark(spelled(text));
+            mark(is_spelled(text));
             say(&out[..n]);
         }
         Canon::Long => say(b"! longer than 16384"),

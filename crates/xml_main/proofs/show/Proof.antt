@@ -38,8 +38,8 @@ canonical-requires c κs = search needs
 enum-known-n : tie.Need-enum-known-n
 enum-known-n c = search needs
 
-spelled-requires : tie.Need-spelled-requires
-spelled-requires c κs = search needs
+is-spelled-requires : tie.Need-is-spelled-requires
+is-spelled-requires c κs = search needs
 
 mark-requires : tie.Need-mark-requires
 mark-requires c κs = search needs
@@ -119,7 +119,7 @@ show-spec =
     slice-aggregate-canonical-2
     canonical-requires
     enum-known-n
-    spelled-requires
+    is-spelled-requires
     mark-requires
     array-share-prefix-out
     slice-aggregate-say

@@ -1,12 +1,12 @@
 -- `value_len` meets its contract: the bytes passed and the run from the place on are the whole run.
-use mathlib.Core.Path.{_≡_, ap}
+use mathlib.Core.Path.{_≡_, ap, sym, _∙_}
 use Prim.Native.Nat.{ℕ, _+_, _-_, _<_, _≤_}
 use native.Mathlib.Nat.{add-zero, zero-add}
 use native.Mathlib.Omega.{arith}
 use borrow.Author.Needs.{needs}
 use borrow.Author.Tests.{ltb-true, ltb-false}
 use lib.ListN.{length, drop, getD}
-use Rattle.xml.specs.ClassNumber.{name-yes, name-no}
+use Rattle.xml.specs.SameTapes.{not-true, not-false}
 use Rattle.xml.specs.Read.{nameRest}
 use Rattle.xml.specs.ScanLaws.{nameRest-none, nameRest-end, nameRest-stop, nameRest-more}
 use Rattle.keys.proofs.address.value_len.Statement.{statement}
@@ -25,23 +25,23 @@ loop-holds c = (omega arith, omega arith, simp (zero-add, add-zero))
 add-if1 : tie.Need-add-if1 Inv-loop μ-loop
 add-if1 c = omega (arith, ltb-true)
 
-add-class : tie.Need-add-class Inv-loop μ-loop
-add-class c = omega (arith, ltb-true)
+add-is-name-byte : tie.Need-add-is-name-byte Inv-loop μ-loop
+add-is-name-byte c = omega (arith, ltb-true)
 
-shared-slice-read-class : tie.Need-shared-slice-read-class Inv-loop μ-loop
-shared-slice-read-class c = omega (arith, ltb-true)
+shared-slice-read-is-name-byte : tie.Need-shared-slice-read-is-name-byte Inv-loop μ-loop
+shared-slice-read-is-name-byte c = omega (arith, ltb-true)
 
-class-requires : tie.Need-class-requires Inv-loop μ-loop
-class-requires c κs = search needs
+is-name-byte-requires : tie.Need-is-name-byte-requires Inv-loop μ-loop
+is-name-byte-requires c κs = search needs
 
 returns : tie.Need-returns Inv-loop μ-loop
 returns c =
     let src = c .before .before .before .before .before .before .before .args .s .now in
     let at = c .before .before .before .before .before .before .before .args .at in
     let n = c .before .before .before .before .before .loop .n in
-    let k = c .before .class in
+    let k = c .before .is-name-byte in
     let h : at + n < length src = omega (arith, ltb-true) in
-    omega (arith, nameRest-stop src (at + n) (33 - n) h (name-no (getD src (at + n) 0) (k .ensures) (c .if2 .taken)))
+    omega (arith, nameRest-stop src (at + n) (33 - n) h (sym (k .ensures) ∙ not-true _ (c .if2 .taken)))
 
 add-n : tie.Need-add-n Inv-loop μ-loop
 add-n c = omega (arith, ltb-true)
@@ -54,11 +54,11 @@ loop-again c =
     let src = c .before .before .before .before .before .before .before .args .s .now in
     let at = c .before .before .before .before .before .before .before .args .at in
     let n = c .before .before .before .before .before .loop .n in
-    let k = c .before .class in
+    let k = c .before .is-name-byte in
     let h : at + n < length src = omega (arith, ltb-true) in
     let more =
     nameRest-more src (at + n) (33 - n) (33 - (n + 1)) (at + (n + 1)) h
-    (name-yes (getD src (at + n) 0) (k .ensures) (c .if2 .left)) (omega arith) (omega arith)
+    (sym (k .ensures) ∙ not-false _ (c .if2 .left)) (omega arith) (omega arith)
     in
     (omega arith, omega arith, omega arith)
 
@@ -85,9 +85,9 @@ value-len-spec =
     μ-loop
     loop-holds
     add-if1
-    add-class
-    shared-slice-read-class
-    class-requires
+    add-is-name-byte
+    shared-slice-read-is-name-byte
+    is-name-byte-requires
     returns
     add-n
     loop-less

@@ -1,6 +1,6 @@
--- `arrange_element` and `arrange_content` meet their contracts: an element is built around what it holds, siblings one by one as they are chosen.
+-- `arrange_element` and `arrange_content` meet their contracts: an element is built around what it holds, siblings one by one in the order of the entries.
 use native.Mathlib.Omega.{arith}
-use mathlib.Core.Path.{_≡_, sym, _∙_}
+use mathlib.Core.Path.{_≡_, refl, sym, _∙_}
 use mathlib.Core.Bool.{true, false}
 use lib.ListN.{length, length-set}
 use borrow.Author.Tests.{not-true, not-false}
@@ -11,9 +11,10 @@ use Rattle.keys.specs.KeyList.{above}
 use Rattle.keys.specs.Version.{_▸_}
 use Rattle.keys.specs.Table.{placeOf}
 use Rattle.keys.specs.Placed.{OfPlace}
-use Rattle.keys.specs.Building.{Progress, turn, turn-labelled, turn-fit, progress-more, progress-done, fit-checked, progress-start}
+use Rattle.keys.specs.Entries.{Sorted}
+use Rattle.keys.specs.Building.{Progress, turn, turn-fit, progress-more, progress-done, fit-checked, fit-few-tags, fit-apart, progress-start}
 use Rattle.keys.specs.BuildingLaws.{fit-kids, element-built, element-end, element-size, fit-linked, fit-few, content-copied}
-use Prim.Native.Nat.{ℕ, _+_, _*_, _-_, _≤_, _<_}
+use Prim.Native.Nat.{ℕ, _+_, _*_, _-_, _<_, _≤_}
 use borrow.Fn.Kinds.{In}
 use borrow.Fn.PlainCycle.{Measures, is, falls, and}
 use Rattle.keys.proofs.arrange.arrange_content.Reads as arrange-content
@@ -23,7 +24,7 @@ use Rattle.keys.proofs.arrange.arrange_element.Reads as arrange-element
 use Rattle.keys.proofs.arrange.arrange_element.Kinds as arrange-element-kinds
 use Rattle.keys.proofs.arrange.+arrange_content+arrange_element.Lts-arrange_element as arrange-element-lts
 use Rattle.keys.proofs.arrange.copy.Reads as copy-reads
-use Rattle.keys.proofs.choose.least_after.Reads as least-after-reads
+use Rattle.keys.proofs.order.order_in.Reads as order-in-reads
 use Rattle.keys.proofs.places.child.Reads as child-reads
 use Rattle.keys.proofs.places.is_above.Reads as is-above-reads
 use Rattle.xml.proofs.tape.view_at.Reads as view-at-reads
@@ -49,13 +50,13 @@ abbrev arrange-element-below : ℕ → In 5 arrange-element-kinds.ps
 arrange-element-below t = and 5 arrange-element-kinds.ps (falls 5 arrange-element-kinds.ps _<_ μ-arrange-element t) arrange-element.Pre
 
 abbrev arrange-content-calls : ℕ → arrange-content-lts.Claims
-arrange-content-calls t = (is-above-reads.Asked, is-above-reads.Learnt, copy-reads.Asked, copy-reads.Learnt, least-after-reads.Asked, least-after-reads.Learnt, arrange-element-below t, arrange-element.Post)
+arrange-content-calls t = (is-above-reads.Asked, is-above-reads.Learnt, copy-reads.Asked, copy-reads.Learnt, order-in-reads.Asked, order-in-reads.Learnt, arrange-element-below t, arrange-element.Post)
 
 abbrev arrange-content-Inv-loop : arrange-content-lts.InvT-loop
-arrange-content-Inv-loop text table n place src tape lo hi out₀ m to₀ p₀ out to p = Progress text table n place src tape lo hi out₀ m p to out
+arrange-content-Inv-loop text table n place src tape lo hi out₀ m order k to₀ j₀ out to j = Progress text table n place src tape lo hi out₀ m order j k to out
 
 abbrev arrange-content-μ-loop : arrange-content-lts.MeasureT-loop
-arrange-content-μ-loop text table n place src tape lo hi out₀ m to₀ p₀ out to p = 512 - to
+arrange-content-μ-loop text table n place src tape lo hi out₀ m order k to₀ j₀ out to j = k - j
 
 abbrev arrange-element-calls : ℕ → arrange-element-lts.Claims
 arrange-element-calls t = (view-at-reads.Asked, view-at-reads.Learnt, child-reads.Asked, child-reads.Learnt, arrange-content-below t, arrange-content.Post)
@@ -65,11 +66,26 @@ module _ (t : ℕ) where
   low : (c : arrange-content-lts.Then1 (arrange-content-calls t) (arrange-content-at t) arrange-content.Post arrange-content-Inv-loop arrange-content-μ-loop) → OfPlace (c .before .before .before .before .before .before .before .args .text .now) (c .before .before .before .before .before .before .before .args .table .now) (c .before .before .before .before .before .before .before .args .n) (c .before .before .before .before .before .before .before .args .place) (λ K o. above K o ≡ false)
   low c K o u e = sym (c .before .is-above .ensures (c .before .before .before .before .before .before .before .args .text .now) K o u e) ∙ not-true (c .before .is-above .result) (c .if1 .taken)
 
-  high : (c : arrange-content-lts.Else1 (arrange-content-calls t) (arrange-content-at t) arrange-content.Post arrange-content-Inv-loop arrange-content-μ-loop) → OfPlace (c .before .before .before .before .before .before .before .args .text .now) (c .before .before .before .before .before .before .before .args .table .now) (c .before .before .before .before .before .before .before .args .n) (c .before .before .before .before .before .before .before .args .place) (λ K o. above K o ≡ true)
-  high c K o u e = sym (c .before .is-above .ensures (c .before .before .before .before .before .before .before .args .text .now) K o u e) ∙ not-false (c .before .is-above .result) (c .if1 .left)
+  high : (c : arrange-content-lts.Else1 (arrange-content-calls t) (arrange-content-at t) arrange-content.Post arrange-content-Inv-loop arrange-content-μ-loop) → above (c .before .before .before .before .before .before .before .pre .1 .0 .keyList) (c .before .before .before .before .before .before .before .pre .1 .0 .path) ≡ true
+  high c =
+      let g = c .before .before .before .before .before .before .before .pre .1 .0 in
+      sym (c .before .is-above .ensures (c .before .before .before .before .before .before .before .args .text .now) (g .keyList) (g .path) (g .tabled) (g .place-is)) ∙ not-false (c .before .is-above .result) (c .if1 .left)
 
   few : (c : arrange-content-lts.Then1 (arrange-content-calls t) (arrange-content-at t) arrange-content.Post arrange-content-Inv-loop arrange-content-μ-loop) → c .before .before .before .before .before .before .before .args .m + c .before .before .before .before .before .before .before .args .hi ≤ 512 + c .before .before .before .before .before .before .before .args .lo
-  few c = fit-few (c .before .before .before .before .before .before .before .pre .1 .0) (low c (c .before .before .before .before .before .before .before .pre .1 .0 .keyList) (c .before .before .before .before .before .before .before .pre .1 .0 .path) (c .before .before .before .before .before .before .before .pre .1 .0 .tabled) (c .before .before .before .before .before .before .before .pre .1 .0 .place-is))
+  few c = let g = c .before .before .before .before .before .before .before .pre .1 .0 in fit-few g (low c (g .keyList) (g .path) (g .tabled) (g .place-is))
+
+  -- the entries are the elements in order
+  listed : (c : arrange-content-lts.After-order-in (arrange-content-calls t) (arrange-content-at t) arrange-content.Post arrange-content-Inv-loop arrange-content-μ-loop) → Sorted (c .before .before .before .before .before .before .before .before .before .pre .1 .0 .keyList) (c .before .before .before .before .before .before .before .before .before .pre .1 .0 .path) (c .before .before .before .before .before .before .before .before .before .args .src .now) (c .before .before .before .before .before .before .before .before .before .args .tape .now) (c .before .before .before .before .before .before .before .before .before .args .lo) (c .before .before .before .before .before .before .before .before .before .args .hi) (c .order-in .last .1 .1 .1 .1 .1 .1 .1 .1 .0) (c .before .before .before .before .before .before .before .before .before .pre .1 .0 .forest) (c .order-in .result)
+  listed c = let g = c .before .before .before .before .before .before .before .before .before .pre .1 .0 in c .order-in .ensures .sorted (g .keyList) (g .path) (g .tabled) (g .place-is) (g .forest) (g .tape)
+
+  -- at most 512
+  most : (c : arrange-content-lts.After-order-in (arrange-content-calls t) (arrange-content-at t) arrange-content.Post arrange-content-Inv-loop arrange-content-μ-loop) → c .order-in .result ≤ 512
+  most c =
+      let n = fit-apart (c .before .before .before .before .before .before .before .before .before .pre .1 .0) (c .before .before .before .before .before .before .before .before .before .args .out .now) (c .order-in .last .1 .1 .1 .1 .1 .1 .1 .1 .0) (c .order-in .result) (high (c .before .before)) (listed c) in
+      omega (arith, c .order-in .ensures .small)
+
+  inside : (c : arrange-content-lts.In-loop (arrange-content-calls t) (arrange-content-at t) arrange-content.Post arrange-content-Inv-loop arrange-content-μ-loop) → c .before .loop .j < 512
+  inside c = omega (arith, most (c .before .before), c .loop-test .taken)
 
   arrange-content-is-above-requires : arrange-content-lts.Need-is-above-requires (arrange-content-calls t) (arrange-content-at t) arrange-content.Post arrange-content-Inv-loop arrange-content-μ-loop
   arrange-content-is-above-requires c κs = c .before .before .before .before .before .pre .1 .0 .tabled .held
@@ -83,28 +99,37 @@ module _ (t : ℕ) where
   arrange-content-returns : arrange-content-lts.Need-returns (arrange-content-calls t) (arrange-content-at t) arrange-content.Post arrange-content-Inv-loop arrange-content-μ-loop
   arrange-content-returns c = content-copied (c .before .before .before .before .before .before .before .before .before .before .before .pre .1 .0) (c .before .before .before .before .before .before .before .before .before .before .before .args .out .now) (low (c .before .before .before .before)) (c .before .before .copy .ensures) (few (c .before .before .before .before)) (c .before .before .before .before .before .before .before .before .before .before .before .pre .1 .1)
 
-  arrange-content-least-after-requires : arrange-content-lts.Need-least-after-requires (arrange-content-calls t) (arrange-content-at t) arrange-content.Post arrange-content-Inv-loop arrange-content-μ-loop
-  arrange-content-least-after-requires c κs = (fit-checked (c .before .before .before .before .before .before .before .pre .1 .0), λ l. absurd (omega arith))
+  arrange-content-order-in-requires : arrange-content-lts.Need-order-in-requires (arrange-content-calls t) (arrange-content-at t) arrange-content.Post arrange-content-Inv-loop arrange-content-μ-loop
+  arrange-content-order-in-requires c κs = (fit-checked (c .before .before .before .before .before .before .before .before .pre .1 .0), fit-few-tags (c .before .before .before .before .before .before .before .before .pre .1 .0), refl)
 
   arrange-content-loop-holds : arrange-content-lts.Need-loop-holds (arrange-content-calls t) (arrange-content-at t) arrange-content.Post arrange-content-Inv-loop arrange-content-μ-loop
-  arrange-content-loop-holds c = progress-start (c .before .before .before .before .before .before .before .before .pre .1 .0) (c .before .before .before .before .before .before .before .before .args .out .now) (high (c .before) (c .before .before .before .before .before .before .before .before .pre .1 .0 .keyList) (c .before .before .before .before .before .before .before .before .pre .1 .0 .path) (c .before .before .before .before .before .before .before .before .pre .1 .0 .tabled) (c .before .before .before .before .before .before .before .before .pre .1 .0 .place-is)) (c .least-after .ensures)
+  arrange-content-loop-holds c = progress-start (c .before .before .before .before .before .before .before .before .before .pre .1 .0) (c .before .before .before .before .before .before .before .before .before .args .out .now) (c .order-in .last .1 .1 .1 .1 .1 .1 .1 .1 .0) (c .order-in .result) (high (c .before .before)) (listed c)
+
+  arrange-content-mul-p : arrange-content-lts.Need-mul-p (arrange-content-calls t) (arrange-content-at t) arrange-content.Post arrange-content-Inv-loop arrange-content-μ-loop
+  arrange-content-mul-p c = omega (arith, inside c)
+
+  arrange-content-array-read-p : arrange-content-lts.Need-array-read-p (arrange-content-calls t) (arrange-content-at t) arrange-content.Post arrange-content-Inv-loop arrange-content-μ-loop
+  arrange-content-array-read-p c = omega (arith, inside c)
+
+  arrange-content-cast-p : arrange-content-lts.Need-cast-p (arrange-content-calls t) (arrange-content-at t) arrange-content.Post arrange-content-Inv-loop arrange-content-μ-loop
+  arrange-content-cast-p c = omega (arith, turn (c .before .loop .inv) (c .loop-test .taken) .entry .node .held)
 
   arrange-content-arrange-element-requires : arrange-content-lts.Need-arrange-element-requires (arrange-content-calls t) (arrange-content-at t) arrange-content.Post arrange-content-Inv-loop arrange-content-μ-loop
   arrange-content-arrange-element-requires c κs =
       let y = turn (c .before .before .loop .inv) (c .before .loop-test .taken) in
-      (omega (arith, c .before .before .before .before .before .before .before .before .before .before .before .pre .0, y .low, y .inside, tape-le (y .inner)), (turn-fit (c .before .before .loop .inv) (c .before .loop-test .taken), omega (arith, c .before .before .loop .inv .long, c .before .before .before .before .before .before .before .before .before .before .before .pre .1 .1)))
+      (omega (arith, c .before .before .before .before .before .before .before .before .before .before .before .before .pre .0, y .entry .low, y .entry .inside, tape-le (y .entry .inner)), (turn-fit (c .before .before .loop .inv) (c .before .loop-test .taken), omega (arith, c .before .before .loop .inv .long, c .before .before .before .before .before .before .before .before .before .before .before .before .pre .1 .1)))
 
-  arrange-content-least-after-requires-2 : arrange-content-lts.Need-least-after-requires-2 (arrange-content-calls t) (arrange-content-at t) arrange-content.Post arrange-content-Inv-loop arrange-content-μ-loop
-  arrange-content-least-after-requires-2 c κs = (fit-checked (c .before .before .before .before .before .before .before .before .before .before .before .before .before .before .pre .1 .0), λ l. turn-labelled (c .before .before .before .before .before .loop .inv) (c .before .before .before .before .loop-test .taken))
+  arrange-content-add-j : arrange-content-lts.Need-add-j (arrange-content-calls t) (arrange-content-at t) arrange-content.Post arrange-content-Inv-loop arrange-content-μ-loop
+  arrange-content-add-j c = omega (arith, inside (c .before .before .before .before))
 
   arrange-content-loop-less : arrange-content-lts.Need-loop-less (arrange-content-calls t) (arrange-content-at t) arrange-content.Post arrange-content-Inv-loop arrange-content-μ-loop
-  arrange-content-loop-less c = let z = element-size (turn-fit (c .before .before .before .before .before .before .loop .inv) (c .before .before .before .before .before .loop-test .taken)) (c .before .before .before .arrange-element .ensures) in omega (arith, z .0, z .1)
+  arrange-content-loop-less c = omega (arith, c .before .before .before .before .loop-test .taken)
 
   arrange-content-loop-again : arrange-content-lts.Need-loop-again (arrange-content-calls t) (arrange-content-at t) arrange-content.Post arrange-content-Inv-loop arrange-content-μ-loop
   arrange-content-loop-again c =
-      let z = element-size (turn-fit (c .before .before .before .before .before .before .loop .inv) (c .before .before .before .before .before .loop-test .taken)) (c .before .before .before .arrange-element .ensures) in
-      let h = c .before .before .before .arrange-element .kept .1 .1 .1 .1 .1 .1 .1 .0 in
-      progress-more (c .before .before .before .before .before .before .loop .inv) (c .before .before .before .before .before .loop-test .taken) (c .before .before .before .arrange-element .ensures) h (c .least-after2 .ensures) (omega (arith, z .0, z .1, h, c .before .before .before .before .before .before .loop .inv .long, c .before .before .before .before .before .before .before .before .before .before .before .before .before .before .before .pre .1 .1))
+      let z = element-size (turn-fit (c .before .before .before .before .before .loop .inv) (c .before .before .before .before .loop-test .taken)) (c .before .before .arrange-element .ensures) in
+      let h = c .before .before .arrange-element .kept .1 .1 .1 .1 .1 .1 .1 .0 in
+      progress-more (c .before .before .before .before .before .loop .inv) (c .before .before .before .before .loop-test .taken) (c .before .before .arrange-element .ensures) h (omega (arith, z .0, z .1, h, c .before .before .before .before .before .loop .inv .long, c .before .before .before .before .before .before .before .before .before .before .before .before .before .before .before .pre .1 .1))
 
   arrange-content-same-length-2 : arrange-content-lts.Need-same-length-2 (arrange-content-calls t) (arrange-content-at t) arrange-content.Post arrange-content-Inv-loop arrange-content-μ-loop
   arrange-content-same-length-2 c = c .before .loop .inv .long
@@ -188,5 +213,5 @@ module _ (t : ℕ) where
 pub +arrange-content+arrange-element-spec : {M : Type 1} → statement M
 +arrange-content+arrange-element-spec =
     close μ-arrange-content μ-arrange-element
-    (λ t. arrange-content-lts.spec (arrange-content-calls t) (arrange-content-at t) arrange-content.Post arrange-content-Inv-loop arrange-content-μ-loop (arrange-content-is-above-requires t) (arrange-content-copy-requires t) (arrange-content-same-length t) (arrange-content-returns t) (arrange-content-least-after-requires t) (arrange-content-loop-holds t) (arrange-content-arrange-element-requires t) (arrange-content-least-after-requires-2 t) (arrange-content-loop-less t) (arrange-content-loop-again t) (arrange-content-same-length-2 t) (arrange-content-returns-2 t))
+    (λ t. arrange-content-lts.spec (arrange-content-calls t) (arrange-content-at t) arrange-content.Post arrange-content-Inv-loop arrange-content-μ-loop (arrange-content-is-above-requires t) (arrange-content-copy-requires t) (arrange-content-same-length t) (arrange-content-returns t) (arrange-content-order-in-requires t) (arrange-content-loop-holds t) (arrange-content-mul-p t) (arrange-content-array-read-p t) (arrange-content-cast-p t) (arrange-content-arrange-element-requires t) (arrange-content-add-j t) (arrange-content-loop-less t) (arrange-content-loop-again t) (arrange-content-same-length-2 t) (arrange-content-returns-2 t))
     (λ t. arrange-element-lts.spec (arrange-element-calls t) (arrange-element-at t) arrange-element.Post (arrange-element-view-at-requires t) (arrange-element-child-requires t) (arrange-element-mul-out t) (arrange-element-mul-out-2 t) (arrange-element-shared-slice-read-out t) (arrange-element-mul-out-3 t) (arrange-element-mul-out-4 t) (arrange-element-slice-write-out t) (arrange-element-add-arrange-content t) (arrange-element-add-arrange-content-2 t) (arrange-element-arrange-content-requires t) (arrange-element-cast-out t) (arrange-element-mul-out-5 t) (arrange-element-add-out t) (arrange-element-mul-out-6 t) (arrange-element-slice-write-out-2 t) (arrange-element-same-length t) (arrange-element-returns t))

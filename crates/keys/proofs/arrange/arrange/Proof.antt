@@ -1,7 +1,7 @@
 -- `arrange` meets its contract.
 use mathlib.Core.Bool.{true, false}
 use Rattle.keys.specs.Doubles.{DoubledIn}
-use Rattle.keys.specs.Arrange.{version-checked, version-fits, version-ordered, version-twice}
+use Rattle.keys.specs.Arrange.{version-checked, version-few, version-fits, version-ordered, version-twice}
 use borrow.Author.Needs.{needs}
 use Rattle.keys.proofs.arrange.arrange.Statement.{statement}
 use Rattle.keys.proofs.arrange.arrange.Tie as tie
@@ -21,7 +21,7 @@ once : (c : lts.Else1 calls reads.Pre reads.Post) → DoubledIn (c .before .befo
 once c = rw (c .if1 .left) at (c .before .doubled-in .ensures)
 
 doubled-in-requires : tie.Need-doubled-in-requires
-doubled-in-requires c κs = version-checked (c .before .before .before .before .before .pre .0)
+doubled-in-requires c κs = (version-checked (c .before .before .before .before .before .pre .0), version-few (c .before .before .before .before .before .pre .0))
 
 returns : tie.Need-returns
 returns c = version-twice (c .before .before .before .before .before .before .before .args .out .now) (twice c)

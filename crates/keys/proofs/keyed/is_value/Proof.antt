@@ -2,11 +2,10 @@
 use Prim.Native.Nat.{_≤_, _-_}
 use native.Mathlib.Omega.{arith}
 use mathlib.Core.Path.{_≡_, refl, sym, _∙_}
-use lib.ListN.{getD}
 use lib.Seq.{slice}
 use borrow.Author.Needs.{needs}
 use Rattle.xml.specs.Bytes.{all, isNameByte}
-use Rattle.xml.specs.ClassNumber.{name-yes, name-no}
+use Rattle.xml.specs.SameTapes.{not-true, not-false}
 use Rattle.keys.specs.Values.{value-short, value-long, value-names, names-stop, names-more, names-done}
 use Rattle.keys.proofs.keyed.is_value.Statement.{statement}
 use Rattle.keys.proofs.keyed.is_value.Tie as tie
@@ -32,11 +31,11 @@ returns-2 c = sym (value-long (c .before .before .before .args .src .now) (c .be
 loop-holds : tie.Need-loop-holds Inv-loop μ-loop
 loop-holds c = (omega arith, omega arith, refl)
 
-shared-slice-read-class : tie.Need-shared-slice-read-class Inv-loop μ-loop
-shared-slice-read-class c = search needs
+shared-slice-read-is-name-byte : tie.Need-shared-slice-read-is-name-byte Inv-loop μ-loop
+shared-slice-read-is-name-byte c = search needs
 
-class-requires : tie.Need-class-requires Inv-loop μ-loop
-class-requires c κs = search needs
+is-name-byte-requires : tie.Need-is-name-byte-requires Inv-loop μ-loop
+is-name-byte-requires c κs = search needs
 
 returns-3 : tie.Need-returns-3 Inv-loop μ-loop
 returns-3 c =
@@ -44,7 +43,7 @@ returns-3 c =
     let i = c .before .before .before .before .loop .i in
     let e = c .before .before .before .before .before .before .before .before .args .e in
     sym (value-names src (c .before .before .before .before .before .before .before .before .args .a) e (omega arith) (omega arith) (omega arith) ∙ c .before .before .before .before .loop .inv .2
-    ∙ names-stop src i e (omega arith) (omega arith) (name-no (getD src i 0) (c .before .class .ensures) (c .if3 .taken)))
+    ∙ names-stop src i e (omega arith) (omega arith) (sym (c .before .is-name-byte .ensures) ∙ not-true _ (c .if3 .taken)))
 
 add-i : tie.Need-add-i Inv-loop μ-loop
 add-i c = search needs
@@ -56,7 +55,7 @@ loop-again : tie.Need-loop-again Inv-loop μ-loop
 loop-again c =
     let src = c .before .before .before .before .before .before .before .before .args .src .now in
     let i = c .before .before .before .before .loop .i in
-    (omega arith, omega arith, c .before .before .before .before .loop .inv .2 ∙ names-more src i (c .before .before .before .before .before .before .before .before .args .e) (omega arith) (omega arith) (name-yes (getD src i 0) (c .before .class .ensures) (c .if3 .left)))
+    (omega arith, omega arith, c .before .before .before .before .loop .inv .2 ∙ names-more src i (c .before .before .before .before .before .before .before .before .args .e) (omega arith) (omega arith) (sym (c .before .is-name-byte .ensures) ∙ not-false _ (c .if3 .left)))
 
 returns-4 : tie.Need-returns-4 Inv-loop μ-loop
 returns-4 c =
@@ -75,8 +74,8 @@ is-value-spec =
     sub-if2
     returns-2
     loop-holds
-    shared-slice-read-class
-    class-requires
+    shared-slice-read-is-name-byte
+    is-name-byte-requires
     returns-3
     add-i
     loop-less

@@ -19,7 +19,7 @@ view-at-requires c κs = front (c .before .before .pre .1 .tape) (c .before .bef
 
 -- src/legal.rt:126:9
 returns : tie.Need-returns
-returns c hi f l t = own-bare _ _ (c .before .before .before .before .before .before .pre .3) _ t l (rw (c .before .before .before .view-at .ensures) at (c .before .if1 .taken)) refl (rw (c .before .before .before .view-at .ensures) refl)
+returns c n hi f m o l t = own-bare n _ o _ t l (rw (c .before .before .before .view-at .ensures) at (c .before .if1 .taken)) refl (rw (c .before .before .before .view-at .ensures) refl)
 
 -- src/legal.rt:131:23
 add-is-sole : tie.Need-add-is-sole
@@ -31,15 +31,15 @@ is-sole-requires c κs = rw (c .before .before .view-at .ensures) (λ l. front (
 
 -- src/legal.rt:132:9
 returns-2 : tie.Need-returns-2
-returns-2 c hi f l t = own-crowd _ _ (c .before .before .before .before .before .before .before .pre .3) _ t l (rw (c .before .before .before .before .view-at .ensures) at (c .before .before .if1 .left)) (λ k x. sym ((rw (c .before .before .before .before .view-at .ensures) at (c .before .is-sole .ensures)) _ k x) ∙ not-true _ (c .if2 .taken)) refl
+returns-2 c n hi f m o l t = own-crowd n _ o _ t l (rw (c .before .before .before .before .view-at .ensures) at (c .before .before .if1 .left)) (λ k x. sym ((rw (c .before .before .before .before .view-at .ensures) at (c .before .is-sole .ensures)) _ k x) ∙ not-true _ (c .if2 .taken)) refl
 
 -- src/legal.rt:137:5
 times-fit-requires : tie.Need-times-fit-requires
-times-fit-requires c κs = rw (c .before .before .before .before .view-at .ensures) (omega arith, front (c .before .before .before .before .before .before .before .pre .1 .tape) (c .before .before .before .before .before .before .before .pre .0) .within, c .before .before .before .before .before .before .before .pre .2, c .before .before .before .before .before .before .before .pre .3)
+times-fit-requires c κs = rw (c .before .before .before .before .view-at .ensures) (omega arith, front (c .before .before .before .before .before .before .before .pre .1 .tape) (c .before .before .before .before .before .before .before .pre .0) .within)
 
 -- src/legal.rt:120:1
 returns-3 : tie.Need-returns-3
-returns-3 c hi f l t = own-timed _ _ (c .before .before .before .before .before .before .before .before .pre .3) _ t l (rw (c .before .before .before .before .before .view-at .ensures) at (c .before .before .before .if1 .left)) (λ k x. sym ((rw (c .before .before .before .before .before .view-at .ensures) at (c .before .before .is-sole .ensures)) _ k x) ∙ not-false _ (c .before .if2 .left)) (rw (c .before .before .before .before .before .view-at .ensures) at (c .times-fit .ensures))
+returns-3 c n hi f m o l t = own-timed n _ o _ t l (rw (c .before .before .before .before .before .view-at .ensures) at (c .before .before .before .if1 .left)) (λ k x. sym ((rw (c .before .before .before .before .before .view-at .ensures) at (c .before .before .is-sole .ensures)) _ k x) ∙ not-false _ (c .before .if2 .left)) (rw (c .before .before .before .before .before .view-at .ensures) at (c .times-fit .ensures n m o))
 
 pub own-times-spec : {M : Type 1} → statement M
 own-times-spec =

@@ -16,7 +16,7 @@ times-at-requires c κs = search needs
 
 -- src/legal.rt:112:9
 returns : tie.Need-returns
-returns c = read-refused _ _ _ (c .before .before .before .before .pre .2) (c .before .before .before .before .pre .3) (c .before .before .times-at .result) (outcome-refused (c .before .before .times-at .result) _ (c .before .before .times-at .ensures) (not-true _ (c .if1 .taken))) (not-true _ (c .if1 .taken))
+returns c n l o = read-refused n _ _ l o (c .before .before .times-at .result) (outcome-refused (c .before .before .times-at .result) _ (c .before .before .times-at .ensures) (not-true _ (c .if1 .taken))) (not-true _ (c .if1 .taken))
 
 -- src/legal.rt:115:9
 may-stand-requires : tie.Need-may-stand-requires
@@ -24,7 +24,7 @@ may-stand-requires c κs = search needs
 
 -- src/legal.rt:106:1
 returns-2 : tie.Need-returns-2
-returns-2 c = read-accepted _ _ _ (c .before .before .before .before .before .before .pre .2) (c .before .before .before .before .before .before .pre .3) _ (outcome-accepted (c .before .before .before .before .times-at .result) _ (c .before .before .before .before .times-at .ensures) (not-false _ (c .before .before .if1 .left))) (c .may-stand .ensures)
+returns-2 c n l o = read-accepted n _ _ l o _ (outcome-accepted (c .before .before .before .before .times-at .result) _ (c .before .before .before .before .times-at .ensures) (not-false _ (c .before .before .if1 .left))) (c .may-stand .ensures n o)
 
 pub times-fit-spec : {M : Type 1} → statement M
 times-fit-spec = tie.close (tie.spec times-at-requires returns may-stand-requires returns-2)

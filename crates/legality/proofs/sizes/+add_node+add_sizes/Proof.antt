@@ -6,12 +6,8 @@ use borrow.Author.Needs.{needs}
 use Rattle.xml.specs.Forest.{Forest}
 use Rattle.xml.specs.Tape.{Tape, headAt, nextAt}
 use Rattle.xml.specs.TapeLaws.{Front, bytesAt, front}
-use Rattle.xml.specs.SameTapes.{not-true, not-false}
-use Rattle.timestamp.specs.Set.{setOf}
-use Rattle.timestamp.specs.Parse.{accepted, parsed}
-use Rattle.versions.specs.Branches.{outcome-refused, outcome-accepted}
-use Rattle.legality.specs.Measured.{one-most, text-measured, deep-measured, element-stopped, element-measured, twice-measured, refused-measured, timed-stopped, timed-measured}
-use Rattle.legality.specs.Going.{Going, going-start, going-room, going-fits, going-more, going-stopped, going-done, text-short, name-length, inner-room, inner-own, inner-cells}
+use Rattle.legality.specs.Measured.{one-most, text-measured, deep-measured, element-stopped, element-measured, twice-measured, timed-stopped, timed-measured}
+use Rattle.legality.specs.Going.{Going, going-start, going-room, going-fits, going-more, going-stopped, going-done, text-short, name-length, inner-text, inner-room, inner-own, inner-cells}
 use Prim.Native.Nat.{ℕ, _+_, _*_, _-_, _%_, _<_, _≤_}
 use borrow.Fn.Kinds.{In}
 use borrow.Fn.PlainCycle.{Measures, is, falls, and}
@@ -25,7 +21,6 @@ use Rattle.legality.proofs.sizes.halted.Reads as halted-reads
 use Rattle.legality.proofs.sizes.one.Reads as one-reads
 use Rattle.legality.proofs.sizes.raise.Reads as raise-reads
 use Rattle.legality.proofs.sizes.sized.Reads as sized-reads
-use Rattle.legality.proofs.times.times_at.Reads as times-at-reads
 use Rattle.xml.proofs.compare.text_len.Reads as text-len-reads
 use Rattle.xml.proofs.tape.view_at.Reads as view-at-reads
 use Rattle.legality.proofs.sizes.+add_node+add_sizes.{statement}
@@ -50,7 +45,7 @@ abbrev add-sizes-below : ℕ → In 4 add-sizes-kinds.ps
 add-sizes-below t = and 4 add-sizes-kinds.ps (falls 4 add-sizes-kinds.ps _<_ μ-add-sizes t) add-sizes.Pre
 
 abbrev add-node-calls : ℕ → add-node-lts.Claims
-add-node-calls t = (view-at-reads.Asked, view-at-reads.Learnt, text-len-reads.Asked, text-len-reads.Learnt, sized-reads.Asked, sized-reads.Learnt, halted-reads.Asked, halted-reads.Learnt, add-sizes-below t, add-sizes.Post, one-reads.Asked, one-reads.Learnt, times-at-reads.Asked, times-at-reads.Learnt, raise-reads.Asked, raise-reads.Learnt)
+add-node-calls t = (view-at-reads.Asked, view-at-reads.Learnt, text-len-reads.Asked, text-len-reads.Learnt, sized-reads.Asked, sized-reads.Learnt, halted-reads.Asked, halted-reads.Learnt, add-sizes-below t, add-sizes.Post, one-reads.Asked, one-reads.Learnt, raise-reads.Asked, raise-reads.Learnt)
 
 abbrev add-sizes-calls : ℕ → add-sizes-lts.Claims
 add-sizes-calls t = (add-node-below t, add-node.Post, view-at-reads.Asked, view-at-reads.Learnt, sized-reads.Asked, sized-reads.Learnt)
@@ -69,10 +64,6 @@ module _ (t : ℕ) where
   -- it is a `T`
   timed-kind : (c : add-node-lts.Else2 (add-node-calls t) (add-node-at t) add-node.Post) → headAt (c .before .before .before .before .before .before .before .before .before .args .tape .now) (c .before .before .before .before .before .before .before .before .before .args .p) % 4 ≡ 2
   timed-kind c = omega (arith, node-front (c .before .before .before .before .before .before .before .before .before) .kind, (rw (c .before .before .before .before .view-at .ensures) at (c .before .before .if1 .left)), rw (c .before .before .before .before .view-at .ensures) at (c .if2 .left))
-
-  -- with the text of a set
-  accept : (c : add-node-lts.Else6 (add-node-calls t) (add-node-at t) add-node.Post) → parsed (bytesAt (c .before .before .before .before .before .before .before .before .before .before .before .before .before .args .src .now) (c .before .before .before .before .before .before .before .before .before .before .before .before .before .args .tape .now) (c .before .before .before .before .before .before .before .before .before .before .before .before .before .args .p)) ≡ accepted (setOf (c .before .before .times-at .result .stamp .words))
-  accept c = outcome-accepted (c .before .before .times-at .result) _ (rw (c .before .before .before .before .before .before .before .before .view-at .ensures) at (c .before .before .times-at .ensures)) (not-false _ (c .if6 .left))
 
   add-node-view-at-requires : add-node-lts.Need-view-at-requires (add-node-calls t) (add-node-at t) add-node.Post
   add-node-view-at-requires c κs = node-front (c .before .before .before .before) .held
@@ -152,20 +143,11 @@ module _ (t : ℕ) where
   add-node-returns-5 : add-node-lts.Need-returns-5 (add-node-calls t) (add-node-at t) add-node.Post
   add-node-returns-5 c f x = twice-measured x (c .before .before .before .before .before .before .before .before .before .before .before .pre .1 .0) (timed-kind (c .before .before)) (c .before .if5 .taken) (c .halted2 .ensures)
 
-  add-node-times-at-requires : add-node-lts.Need-times-at-requires (add-node-calls t) (add-node-at t) add-node.Post
-  add-node-times-at-requires c κs = rw (c .before .before .before .before .before .view-at .ensures) (omega arith, node-front (c .before .before .before .before .before .before .before .before .before .before) .within)
-
-  add-node-halted-requires-3 : add-node-lts.Need-halted-requires-3 (add-node-calls t) (add-node-at t) add-node.Post
-  add-node-halted-requires-3 c κs = search needs
-
-  add-node-returns-6 : add-node-lts.Need-returns-6 (add-node-calls t) (add-node-at t) add-node.Post
-  add-node-returns-6 c f x = refused-measured x (c .before .before .before .before .before .before .before .before .before .before .before .before .before .before .pre .1 .0) (timed-kind (c .before .before .before .before .before)) (c .before .before .before .before .if5 .left) (outcome-refused (c .before .before .before .times-at .result) _ (rw (c .before .before .before .before .before .before .before .before .before .view-at .ensures) at (c .before .before .before .times-at .ensures)) (not-true _ (c .before .if6 .taken))) (c .halted3 .ensures)
-
   add-node-add-add-sizes-2 : add-node-lts.Need-add-add-sizes-2 (add-node-calls t) (add-node-at t) add-node.Post
-  add-node-add-add-sizes-2 c = omega (arith, node-front (c .before .before .before .before .before .before .before .before .before .before .before .before .before) .held)
+  add-node-add-add-sizes-2 c = omega (arith, node-front (c .before .before .before .before .before .before .before .before .before .before) .held)
 
   add-node-add-sizes-requires-2 : add-node-lts.Need-add-sizes-requires-2 (add-node-calls t) (add-node-at t) add-node.Post
-  add-node-add-sizes-requires-2 c κs = rw (c .before .before .before .before .before .before .before .before .before .before .view-at .ensures) (omega (arith, c .before .before .before .before .before .before .before .before .before .before .before .before .before .before .before .pre .0, (c .before .before .before .before .before .before .before .before .before .before .before .before .before .before .before .pre .1 .0)), (inner-room (c .before .before .before .before .before .before .before .before .before .before .before .before .before .before .before .pre .1 .1) (c .before .before .before .before .before .before .before .before .before .before .before .before .before .before .before .pre .1 .0) (rw (c .before .before .before .before .before .before .before .before .before .before .view-at .ensures) at (c .before .before .before .before .before .before .before .before .if1 .left))))
+  add-node-add-sizes-requires-2 c κs = rw (c .before .before .before .before .before .before .before .view-at .ensures) (omega (arith, c .before .before .before .before .before .before .before .before .before .before .before .before .pre .0, (c .before .before .before .before .before .before .before .before .before .before .before .before .pre .1 .0)), (inner-room (c .before .before .before .before .before .before .before .before .before .before .before .before .pre .1 .1) (c .before .before .before .before .before .before .before .before .before .before .before .before .pre .1 .0) (rw (c .before .before .before .before .before .before .before .view-at .ensures) at (c .before .before .before .before .before .if1 .left))))
 
   add-node-same-length-5 : add-node-lts.Need-same-length-5 (add-node-calls t) (add-node-at t) add-node.Post
   add-node-same-length-5 c = search needs
@@ -173,14 +155,14 @@ module _ (t : ℕ) where
   add-node-same-length-6 : add-node-lts.Need-same-length-6 (add-node-calls t) (add-node-at t) add-node.Post
   add-node-same-length-6 c = search needs
 
-  add-node-returns-7 : add-node-lts.Need-returns-7 (add-node-calls t) (add-node-at t) add-node.Post
-  add-node-returns-7 c f x = timed-stopped x (c .before .before .before .before .before .before .before .before .before .before .before .before .before .before .before .before .before .before .before .before .before .pre .1 .0) (timed-kind (c .before .before .before .before .before .before .before .before .before .before .before .before)) (c .before .before .before .before .before .before .before .before .before .before .before .if5 .left) (accept (c .before .before .before .before .before .before .before .before)) (rw (c .before .before .before .before .before .before .before .before .before .before .before .before .before .before .before .before .view-at .ensures) at (c .before .before .before .before .before .add-sizes2 .ensures)) (c .if7 .taken)
+  add-node-returns-6 : add-node-lts.Need-returns-6 (add-node-calls t) (add-node-at t) add-node.Post
+  add-node-returns-6 c f x = timed-stopped x (c .before .before .before .before .before .before .before .before .before .before .before .before .before .before .before .before .before .before .pre .1 .0) (timed-kind (c .before .before .before .before .before .before .before .before .before)) (c .before .before .before .before .before .before .before .before .if5 .left) (rw (c .before .before .before .before .before .before .before .before .before .before .before .before .before .view-at .ensures) at (c .before .before .before .before .before .add-sizes2 .ensures)) (c .if6 .taken)
 
   add-node-raise-requires : add-node-lts.Need-raise-requires (add-node-calls t) (add-node-at t) add-node.Post
-  add-node-raise-requires c κs = inner-cells (inner-room (c .before .before .before .before .before .before .before .before .before .before .before .before .before .before .before .before .before .before .before .before .before .before .pre .1 .1) (c .before .before .before .before .before .before .before .before .before .before .before .before .before .before .before .before .before .before .before .before .before .before .pre .1 .0) (rw (c .before .before .before .before .before .before .before .before .before .before .before .before .before .before .before .before .before .view-at .ensures) at (c .before .before .before .before .before .before .before .before .before .before .before .before .before .before .before .if1 .left))) (rw (c .before .before .before .before .before .before .before .before .before .before .before .before .before .before .before .before .before .view-at .ensures) at (c .before .before .before .before .before .before .add-sizes2 .ensures)) (c .before .if7 .left) .0
-
-  add-node-raise-requires-2 : add-node-lts.Need-raise-requires-2 (add-node-calls t) (add-node-at t) add-node.Post
-  add-node-raise-requires-2 c κs = inner-cells (inner-room (c .before .before .before .before .before .before .before .before .before .before .before .before .before .before .before .before .before .before .before .before .before .before .before .before .before .before .pre .1 .1) (c .before .before .before .before .before .before .before .before .before .before .before .before .before .before .before .before .before .before .before .before .before .before .before .before .before .before .pre .1 .0) (rw (c .before .before .before .before .before .before .before .before .before .before .before .before .before .before .before .before .before .before .before .before .before .view-at .ensures) at (c .before .before .before .before .before .before .before .before .before .before .before .before .before .before .before .before .before .before .before .if1 .left))) (rw (c .before .before .before .before .before .before .before .before .before .before .before .before .before .before .before .before .before .before .before .before .before .view-at .ensures) at (c .before .before .before .before .before .before .before .before .before .before .add-sizes2 .ensures)) (c .before .before .before .before .before .if7 .left) .1
+  add-node-raise-requires c κs =
+      let f = node-front (c .before .before .before .before .before .before .before .before .before .before .before .before .before .before .before .before .before .before .before .before) in
+      let z = inner-cells (inner-room (c .before .before .before .before .before .before .before .before .before .before .before .before .before .before .before .before .before .before .before .before .pre .1 .1) (c .before .before .before .before .before .before .before .before .before .before .before .before .before .before .before .before .before .before .before .before .pre .1 .0) (rw (c .before .before .before .before .before .before .before .before .before .before .before .before .before .before .before .view-at .ensures) at (c .before .before .before .before .before .before .before .before .before .before .before .before .before .if1 .left))) (rw (c .before .before .before .before .before .before .before .before .before .before .before .before .before .before .before .view-at .ensures) at (c .before .before .before .before .before .before .before .add-sizes2 .ensures)) (c .before .before .if6 .left) in
+      rw (c .before .before .before .before .before .before .before .before .before .before .before .before .before .before .before .view-at .ensures) (inner-text (c .before .before .before .before .before .before .before .before .before .before .before .before .before .before .before .before .before .before .before .before .pre .1 .1) (c .before .before .before .before .before .before .before .before .before .before .before .before .before .before .before .before .before .before .before .before .pre .1 .0) (timed-kind (c .before .before .before .before .before .before .before .before .before .before .before)), omega arith, f .within, z .0, z .1)
 
   add-node-sized-requires-3 : add-node-lts.Need-sized-requires-3 (add-node-calls t) (add-node-at t) add-node.Post
   add-node-sized-requires-3 c κs = search needs
@@ -191,8 +173,10 @@ module _ (t : ℕ) where
   add-node-same-length-8 : add-node-lts.Need-same-length-8 (add-node-calls t) (add-node-at t) add-node.Post
   add-node-same-length-8 c = search needs
 
-  add-node-returns-8 : add-node-lts.Need-returns-8 (add-node-calls t) (add-node-at t) add-node.Post
-  add-node-returns-8 c f x = rw (c .sized3 .ensures) (timed-measured x (c .before .before .before .before .before .before .before .before .before .before .before .before .before .before .before .before .before .before .before .before .before .before .before .before .before .before .before .before .before .before .pre .1 .0) (timed-kind (c .before .before .before .before .before .before .before .before .before .before .before .before .before .before .before .before .before .before .before .before .before)) (c .before .before .before .before .before .before .before .before .before .before .before .before .before .before .before .before .before .before .before .before .if5 .left) (accept (c .before .before .before .before .before .before .before .before .before .before .before .before .before .before .before .before .before)) (rw (c .before .before .before .before .before .before .before .before .before .before .before .before .before .before .before .before .before .before .before .before .before .before .before .before .before .view-at .ensures) at (c .before .before .before .before .before .before .before .before .before .before .before .before .before .before .add-sizes2 .ensures)) (c .before .before .before .before .before .before .before .before .before .if7 .left) (c .before .before .before .before .before .before .before .raise .ensures) (c .before .before .before .raise2 .ensures))
+  add-node-returns-7 : add-node-lts.Need-returns-7 (add-node-calls t) (add-node-at t) add-node.Post
+  add-node-returns-7 c f x =
+      let g = rw (c .before .before .before .before .before .before .before .before .before .before .before .before .before .before .before .before .before .before .before .before .before .view-at .ensures) at (c .before .before .before .before .before .raise .ensures) in
+      rw (c .sized3 .ensures) (timed-measured x (c .before .before .before .before .before .before .before .before .before .before .before .before .before .before .before .before .before .before .before .before .before .before .before .before .before .before .pre .1 .0) (timed-kind (c .before .before .before .before .before .before .before .before .before .before .before .before .before .before .before .before .before)) (c .before .before .before .before .before .before .before .before .before .before .before .before .before .before .before .before .if5 .left) (inner-text (c .before .before .before .before .before .before .before .before .before .before .before .before .before .before .before .before .before .before .before .before .before .before .before .before .before .before .pre .1 .1) (c .before .before .before .before .before .before .before .before .before .before .before .before .before .before .before .before .before .before .before .before .before .before .before .before .before .before .pre .1 .0) (timed-kind (c .before .before .before .before .before .before .before .before .before .before .before .before .before .before .before .before .before))) (rw (c .before .before .before .before .before .before .before .before .before .before .before .before .before .before .before .before .before .before .before .before .before .view-at .ensures) at (c .before .before .before .before .before .before .before .before .before .before .before .before .before .add-sizes2 .ensures)) (c .before .before .before .before .before .before .before .before .if6 .left) (g .0) (g .1))
 
 module _ (t : ℕ) where
   way : (c : add-sizes-lts.At-loop (add-sizes-calls t) (add-sizes-at t) add-sizes.Post add-sizes-Inv-loop add-sizes-μ-loop) → Going (c .before .before .before .before .before .args .src .now) (c .before .before .before .before .before .args .tape .now) (c .before .before .before .before .before .args .lo) (c .loop .p) (c .before .before .before .before .before .args .hi) (c .before .before .before .before .before .args .left) (c .before .before .before .before .before .args .timed) (c .before .before .before .before .before .pre .1 .forest) (c .loop .n) (c .loop .b) (c .before .before .before .before .before .args .nodes .now) (c .loop .nodes) (c .before .before .before .before .before .args .bytes .now) (c .loop .bytes)
@@ -246,5 +230,5 @@ module _ (t : ℕ) where
 pub +add-node+add-sizes-spec : {M : Type 1} → statement M
 +add-node+add-sizes-spec =
     close μ-add-node μ-add-sizes
-    (λ t. add-node-lts.spec (add-node-calls t) (add-node-at t) add-node.Post (add-node-view-at-requires t) (add-node-text-len-requires t) (add-node-cast-sized t) (add-node-sized-requires t) (add-node-returns t) (add-node-halted-requires t) (add-node-returns-2 t) (add-node-add-add-sizes t) (add-node-sub-add-sizes t) (add-node-add-sizes-requires t) (add-node-same-length t) (add-node-same-length-2 t) (add-node-returns-3 t) (add-node-sub-name t) (add-node-cast-name t) (add-node-one-requires t) (add-node-add-sized t) (add-node-mul-sized t) (add-node-add-sized-2 t) (add-node-add-sized-3 t) (add-node-sized-requires-2 t) (add-node-same-length-3 t) (add-node-same-length-4 t) (add-node-returns-4 t) (add-node-halted-requires-2 t) (add-node-returns-5 t) (add-node-times-at-requires t) (add-node-halted-requires-3 t) (add-node-returns-6 t) (add-node-add-add-sizes-2 t) (add-node-add-sizes-requires-2 t) (add-node-same-length-5 t) (add-node-same-length-6 t) (add-node-returns-7 t) (add-node-raise-requires t) (add-node-raise-requires-2 t) (add-node-sized-requires-3 t) (add-node-same-length-7 t) (add-node-same-length-8 t) (add-node-returns-8 t))
+    (λ t. add-node-lts.spec (add-node-calls t) (add-node-at t) add-node.Post (add-node-view-at-requires t) (add-node-text-len-requires t) (add-node-cast-sized t) (add-node-sized-requires t) (add-node-returns t) (add-node-halted-requires t) (add-node-returns-2 t) (add-node-add-add-sizes t) (add-node-sub-add-sizes t) (add-node-add-sizes-requires t) (add-node-same-length t) (add-node-same-length-2 t) (add-node-returns-3 t) (add-node-sub-name t) (add-node-cast-name t) (add-node-one-requires t) (add-node-add-sized t) (add-node-mul-sized t) (add-node-add-sized-2 t) (add-node-add-sized-3 t) (add-node-sized-requires-2 t) (add-node-same-length-3 t) (add-node-same-length-4 t) (add-node-returns-4 t) (add-node-halted-requires-2 t) (add-node-returns-5 t) (add-node-add-add-sizes-2 t) (add-node-add-sizes-requires-2 t) (add-node-same-length-5 t) (add-node-same-length-6 t) (add-node-returns-6 t) (add-node-raise-requires t) (add-node-sized-requires-3 t) (add-node-same-length-7 t) (add-node-same-length-8 t) (add-node-returns-7 t))
     (λ t. add-sizes-lts.spec (add-sizes-calls t) (add-sizes-at t) add-sizes.Post add-sizes-Inv-loop add-sizes-μ-loop (add-sizes-loop-holds t) (add-sizes-add-node-requires t) (add-sizes-same-length t) (add-sizes-same-length-2 t) (add-sizes-returns t) (add-sizes-add-n t) (add-sizes-add-b t) (add-sizes-view-at-requires t) (add-sizes-loop-less t) (add-sizes-loop-again t) (add-sizes-sized-requires t) (add-sizes-same-length-3 t) (add-sizes-same-length-4 t) (add-sizes-returns-2 t))

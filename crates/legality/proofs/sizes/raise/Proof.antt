@@ -1,57 +1,83 @@
--- `archive::sizes::raise` meets its contract. The loop's invariant (`Raising`): the cells of the versions below `lo` have grown. Assumes
--- nothing.
-use Prim.Native.Nat.{ℕ, _-_, _≤_, _<_, min}
+-- `legality::sizes::raise` meets its contract. The loop's invariant (`Raising`): the versions of the runs that have been read have grown.
+-- Assumes nothing.
+use Prim.Native.Nat.{ℕ, _+_, _-_, _≤_}
 use native.Mathlib.Omega.{arith}
-use mathlib.Core.Path.{ap, _∙_}
-use borrow.Author.Needs.{needs}
-use Rattle.timestamp.specs.Set.{setOf}
-use Rattle.timestamp.specs.First.{first-low}
-use Rattle.versions.specs.Grown.{Raising, raising-start, run-ends, raising-more, raising-end, raising-room}
+use mathlib.Core.Path.{_≡_, ap, _∙_}
+use mathlib.Core.List.{[], _∷_}
+use lib.ListN.{getD}
+use lib.Seq.{slice, slice-empty}
+use Rattle.timestamp.specs.Parse.{numbersIn}
+use Rattle.legality.specs.Raised.{Raising, raising-start, raising-byte, digit-asks, raising-digit, is-dash, raising-dash, comma-closes, raising-comma, run-asks, end-closes, raising-end}
 use Rattle.legality.proofs.sizes.raise.Statement.{statement}
 use Rattle.legality.proofs.sizes.raise.Tie as tie
 
 abbrev Inv-loop : tie.InvT-loop
-Inv-loop set cells₀ x gaps lo₀ cells lo = Raising (setOf (set .words)) x cells₀ cells lo
+Inv-loop src a e nodes₀ bytes₀ x y at₀ lo₀ n₀ nodes bytes at lo n =
+    (at ≤ e) × Raising (slice at e src) (numbersIn (slice a e src)) x y nodes₀ nodes bytes₀ bytes lo n
 
 abbrev μ-loop : tie.MeasureT-loop
-μ-loop set cells₀ x gaps lo₀ cells lo = 1024 - lo
+μ-loop src a e nodes₀ bytes₀ x y at₀ lo₀ n₀ nodes bytes at lo n = e - at
 
--- the run that begins at `lo` ends before `end`
-turn : (c : tie.After-least Inv-loop μ-loop) → (c .before .before .before .loop .lo < c .least .result) × (c .least .result ≤ 1000)
-turn c = run-ends (setOf (c .before .before .before .before .before .before .before .args .set .words)) (setOf (c .before .before .before .before .before .complement .result .words)) (c .before .before .before .before .before .complement .ensures) (c .before .before .before .loop .lo) (c .least .result) (c .before .before .loop-test .taken) (c .least .ensures ∙ ap (λ (z : ℕ). min z 1000) (c .before .next2 .ensures)) (c .before .before .before .loop .inv .member (c .before .before .loop-test .taken))
+-- the byte that the turn reads, and those after it
+turn : (c : tie.In-loop Inv-loop μ-loop) → Raising (getD (c .before .before .before .before .before .args .src .now) (c .before .loop .at) 0 ∷ slice (c .before .loop .at + 1) (c .before .before .before .before .before .args .e) (c .before .before .before .before .before .args .src .now)) (numbersIn (slice (c .before .before .before .before .before .args .a) (c .before .before .before .before .before .args .e) (c .before .before .before .before .before .args .src .now))) (c .before .before .before .before .before .args .x) (c .before .before .before .before .before .args .y) (c .before .before .before .before .before .args .nodes .now) (c .before .loop .nodes) (c .before .before .before .before .before .args .bytes .now) (c .before .loop .bytes) (c .before .loop .lo) (c .before .loop .n)
+turn c = raising-byte (c .before .before .before .before .before .args .src .now) (c .before .loop .at) (c .before .before .before .before .before .args .e) (c .loop-test .taken) (c .before .before .before .before .before .pre .2) (c .before .loop .inv .1)
 
-complement-requires : tie.Need-complement-requires Inv-loop μ-loop
-complement-requires c κs = search needs
-
-next-requires : tie.Need-next-requires Inv-loop μ-loop
-next-requires c κs = search needs
+-- all is read
+done : (c : tie.After-loop Inv-loop μ-loop) → Raising [] (numbersIn (slice (c .before .before .before .before .before .args .a) (c .before .before .before .before .before .args .e) (c .before .before .before .before .before .args .src .now))) (c .before .before .before .before .before .args .x) (c .before .before .before .before .before .args .y) (c .before .before .before .before .before .args .nodes .now) (c .before .loop .nodes) (c .before .before .before .before .before .args .bytes .now) (c .before .loop .bytes) (c .before .loop .lo) (c .before .loop .n)
+done c =
+    let z : c .before .loop .at ≡ c .before .before .before .before .before .args .e = omega (arith, c .before .loop .inv .0) in
+    rw (ap (λ (m : ℕ). slice m (c .before .before .before .before .before .args .e) (c .before .before .before .before .before .args .src .now)) z ∙ slice-empty (c .before .before .before .before .before .args .e) (c .before .before .before .before .before .args .src .now)) at (c .before .loop .inv .1)
 
 loop-holds : tie.Need-loop-holds Inv-loop μ-loop
-loop-holds c = raising-start (setOf (c .before .before .before .args .set .words)) (c .before .before .before .args .x) (c .next .result) (c .next .ensures)
+loop-holds c = (c .before .before .before .pre .1, raising-start (c .before .before .before .pre .0))
 
-next-requires-2 : tie.Need-next-requires-2 Inv-loop μ-loop
-next-requires-2 c κs = omega arith
+shared-slice-read-b : tie.Need-shared-slice-read-b Inv-loop μ-loop
+shared-slice-read-b c = omega (arith, c .before .before .before .before .before .before .pre .2)
 
-least-requires : tie.Need-least-requires Inv-loop μ-loop
-least-requires c κs = search needs
+add-at : tie.Need-add-at Inv-loop μ-loop
+add-at c = omega arith
 
-raise-run-requires : tie.Need-raise-run-requires Inv-loop μ-loop
-raise-run-requires c κs = let w = turn (c .before) in (raising-room (setOf (c .before .before .before .before .before .before .before .before .args .set .words)) (c .before .before .before .before .loop .inv) (c .before .before .before .before .before .before .before .before .pre), c .before .before .before .before .loop .inv .low, omega (arith, w), omega (arith, w))
+mul-n : tie.Need-mul-n Inv-loop μ-loop
+mul-n c = omega (arith, digit-asks (turn (c .before .before)) (λ q. omega arith) (λ q. omega arith))
 
-next-requires-3 : tie.Need-next-requires-3 Inv-loop μ-loop
-next-requires-3 c κs = omega (arith, turn (c .before .before .before .before))
+cast-n : tie.Need-cast-n Inv-loop μ-loop
+cast-n c = omega (arith, digit-asks (turn (c .before .before)) (λ q. omega arith) (λ q. omega arith))
+
+add-n : tie.Need-add-n Inv-loop μ-loop
+add-n c = omega (arith, digit-asks (turn (c .before .before)) (λ q. omega arith) (λ q. omega arith))
 
 loop-less : tie.Need-loop-less Inv-loop μ-loop
-loop-less c = omega (arith, turn (c .before .before .before .before .before), c .next3 .ensures, first-low (setOf (c .before .before .before .before .before .before .before .before .before .before .before .before .args .set .words)) (1024 - c .before .before .before .before .before .least .result) (c .before .before .before .before .before .least .result))
+loop-less c = omega arith
 
 loop-again : tie.Need-loop-again Inv-loop μ-loop
-loop-again c = raising-more (setOf (c .before .before .before .before .before .before .before .before .before .before .before .before .args .set .words)) (setOf (c .before .before .before .before .before .before .before .before .before .before .complement .result .words)) (c .before .before .before .before .before .before .before .before .before .before .complement .ensures) (c .before .before .before .before .before .before .before .before .loop .lo) (c .before .before .before .before .before .least .result) (c .before .before .before .before .before .before .before .loop-test .taken) (c .before .before .before .before .before .least .ensures ∙ ap (λ (z : ℕ). min z 1000) (c .before .before .before .before .before .before .next2 .ensures)) (c .before .before .before .before .before .before .before .before .loop .inv) (c .before .before .before .raise-run .ensures) (c .next3 .ensures)
+loop-again c = (omega arith, raising-digit (turn (c .before .before)) (λ q. omega arith) (λ q. omega arith))
+
+raise-span-requires : tie.Need-raise-span-requires Inv-loop μ-loop
+raise-span-requires c κs = let r = turn (c .before .before .before .before .before) in run-asks r (comma-closes r (c .before .before .if2 .taken)) (c .before .before .before .before .before .before .before .before .before .before .pre .3) (c .before .before .before .before .before .before .before .before .before .before .pre .4)
+
+loop-less-2 : tie.Need-loop-less-2 Inv-loop μ-loop
+loop-less-2 c = omega arith
+
+loop-again-2 : tie.Need-loop-again-2 Inv-loop μ-loop
+loop-again-2 c = (omega arith, raising-comma (turn (c .before .before .before .before .before .before .before .before .before .before)) (c .before .before .before .before .before .before .before .if2 .taken) (c .before .before .before .before .raise-span .ensures .0) (c .before .before .before .before .raise-span .ensures .1))
+
+loop-less-3 : tie.Need-loop-less-3 Inv-loop μ-loop
+loop-less-3 c = omega arith
+
+loop-again-3 : tie.Need-loop-again-3 Inv-loop μ-loop
+loop-again-3 c = let r = turn (c .before .before .before) in (omega arith, raising-dash r (is-dash r (omega arith) (c .if2 .left)))
+
+raise-span-requires-2 : tie.Need-raise-span-requires-2 Inv-loop μ-loop
+raise-span-requires-2 c κs = let r = done (c .before .before) in run-asks r (end-closes r) (c .before .before .before .before .before .before .before .pre .3) (c .before .before .before .before .before .before .before .pre .4)
 
 same-length : tie.Need-same-length Inv-loop μ-loop
-same-length c = c .before .loop .inv .grown .count
+same-length c = raising-end (done (c .before .before .before .before .before .before .before)) (c .before .before .before .before .raise-span2 .ensures .0) (c .before .before .before .before .raise-span2 .ensures .1) .0 .count
+
+same-length-2 : tie.Need-same-length-2 Inv-loop μ-loop
+same-length-2 c = raising-end (done (c .before .before .before .before .before .before .before)) (c .before .before .before .before .raise-span2 .ensures .0) (c .before .before .before .before .raise-span2 .ensures .1) .1 .count
 
 returns : tie.Need-returns Inv-loop μ-loop
-returns c = raising-end (setOf (c .before .before .before .before .before .args .set .words)) (c .before .loop .inv) (c .loop-test .left)
+returns c = raising-end (done (c .before .before .before .before .before .before .before)) (c .before .before .before .before .raise-span2 .ensures .0) (c .before .before .before .before .raise-span2 .ensures .1)
 
 pub raise-spec : {M : Type 1} → statement M
 raise-spec =
@@ -59,14 +85,20 @@ raise-spec =
     (tie.spec
     Inv-loop
     μ-loop
-    complement-requires
-    next-requires
     loop-holds
-    next-requires-2
-    least-requires
-    raise-run-requires
-    next-requires-3
+    shared-slice-read-b
+    add-at
+    mul-n
+    cast-n
+    add-n
     loop-less
     loop-again
+    raise-span-requires
+    loop-less-2
+    loop-again-2
+    loop-less-3
+    loop-again-3
+    raise-span-requires-2
     same-length
+    same-length-2
     returns)

@@ -1,71 +1,53 @@
--- `timestamp::Timestamp::cut` meets its contract. The loop's invariant: the words before k are filled (`Filled`).
-use borrow.Author.Needs.{needs}
-use Prim.Native.Nat.{_-_, _≤_}
-use mathlib.Core.Path.{refl, ap}
+-- `timestamp::Timestamp::cut` meets its contract.
+use Prim.Native.Nat.{_+_, _-_, _*_, _/_, _%_, min}
+use mathlib.Core.Path.{_≡_, _∙_}
 use native.Mathlib.Omega.{arith}
-use lib.ListN.{getD}
-use Rattle.timestamp.specs.Words.{Filled, filled-more, cut-set, cutWord}
-use lib.Bits.{bitAnd}
+use borrow.Author.Needs.{needs}
+use Rattle.timestamp.specs.Words.{stored-zeros, cut-set}
 use Rattle.timestamp.proofs.Timestamp.cut.Statement.{statement}
 use Rattle.timestamp.proofs.Timestamp.cut.Tie as tie
 
-abbrev Inv-loop : tie.InvT-loop
-Inv-loop i self w₀ k₀ w k = (k ≤ 16) × Filled (cutWord (self .words) i) k w
-
-abbrev μ-loop : tie.MeasureT-loop
-μ-loop i self w₀ k₀ w k = 16 - k
-
-loop-holds : tie.Need-loop-holds Inv-loop μ-loop
-loop-holds c = (omega arith, record { size = refl; are = λ k l. absurd (omega arith) })
-
-mul-w : tie.Need-mul-w Inv-loop μ-loop
+mul-w : tie.Need-mul-w
 mul-w c = search needs
 
-element-copy-out-w : tie.Need-element-copy-out-w Inv-loop μ-loop
-element-copy-out-w c = search needs
+array-read-w : tie.Need-array-read-w
+array-read-w c = search needs
 
-add-mask : tie.Need-add-mask Inv-loop μ-loop
-add-mask c = search needs
+add-low : tie.Need-add-low
+add-low c = search needs
 
-mask-requires : tie.Need-mask-requires Inv-loop μ-loop
-mask-requires c κs = search needs
+low-requires : tie.Need-low-requires
+low-requires c κs = search needs
 
-mul-w-2 : tie.Need-mul-w-2 Inv-loop μ-loop
+mul-w-2 : tie.Need-mul-w-2
 mul-w-2 c = search needs
 
-array-write-w : tie.Need-array-write-w Inv-loop μ-loop
+array-write-w : tie.Need-array-write-w
 array-write-w c = search needs
 
-add-k : tie.Need-add-k Inv-loop μ-loop
-add-k c = search needs
+add-store : tie.Need-add-store
+add-store c = search needs
 
-loop-less : tie.Need-loop-less Inv-loop μ-loop
-loop-less c = search needs
+store-requires : tie.Need-store-requires
+store-requires c κs = search needs
 
-loop-again : tie.Need-loop-again Inv-loop μ-loop
-loop-again c = (
-  omega arith,
-  filled-more _ _ _ _ (c .before .before .before .loop .inv .1) (omega arith)
-      (ap (bitAnd (getD (c .before .before .before .before .args .t1 .words) (c .before .before .before .loop .k) 0)) (c .mask .ensures)),
-)
-
-returns : tie.Need-returns Inv-loop μ-loop
-returns c = cut-set _ _ _ _ (search needs) (c .before .loop .inv .1) (omega arith)
+returns : tie.Need-returns
+returns c =
+    let a = c .before .before .before .before .args .self .words in
+    let i = c .before .before .before .before .args .i in
+    let e : min (i % 64 + 1) 64 ≡ min (i + 1 - i / 64 * 64) 64 = omega arith in
+    stored-zeros _ _ _ (c .store .ensures) ∙ rw (c .before .before .low .ensures, e) (cut-set a i (search needs) (omega arith))
 
 pub cut-spec : {M : Type 1} → statement M
 cut-spec =
     tie.close
     (tie.spec
-    Inv-loop
-    μ-loop
-    loop-holds
     mul-w
-    element-copy-out-w
-    add-mask
-    mask-requires
+    array-read-w
+    add-low
+    low-requires
     mul-w-2
     array-write-w
-    add-k
-    loop-less
-    loop-again
+    add-store
+    store-requires
     returns)

@@ -1,10 +1,9 @@
--- `xml::scan::text_byte` meets its contract: a law for each return. Of a byte that is neither plain nor means something here the class says whether it is legal. Assumes nothing.
+-- `xml::scan::text_byte` meets its contract: a law for each return. Of a byte that means nothing here the class says whether it is legal. Assumes nothing.
 use mathlib.Core.Path.{sym, _∙_, subst}
 use mathlib.Core.Bool.{true, false}
 use Prim.Native.Nat.{_+_, _≤_}
 use native.Mathlib.Omega.{arith}
 use lib.ListN.{length, drop, getD, length-drop}
-use Rattle.xml.specs.ByteTests.{plain-next}
 use Rattle.xml.specs.ClassNumber.{legal-yes, legal-no}
 use Rattle.xml.specs.ScanLaws.{foundLen, entity-fits}
 use Rattle.xml.specs.TextLaws.{byte-over, byte-hit, byte-miss, byte-bracket, byte-closed, byte-greater, byte-other}
@@ -16,14 +15,8 @@ use Rattle.xml.proofs.scan.text_byte.Tie as tie
 shared-slice-read-b : tie.Need-shared-slice-read-b
 shared-slice-read-b c = search needs
 
-is-plain-requires : tie.Need-is-plain-requires
-is-plain-requires c κs = search needs
-
 returns : tie.Need-returns
-returns c = sym (plain-next (c .before .before .before .before .args .q) _ _ (sym (c .before .is-plain .ensures) ∙ c .if1 .taken))
-
-returns-2 : tie.Need-returns-2
-returns-2 c = sym (byte-over (c .before .before .before .before .before .args .q) (getD (c .before .before .before .before .before .args .src .now) (c .before .before .before .before .before .args .at) 0) (drop (c .before .before .before .before .before .args .at + 1) (c .before .before .before .before .before .args .src .now)) (c .if2 .taken))
+returns c = sym (byte-over (c .before .before .before .args .q) (getD (c .before .before .before .args .src .now) (c .before .before .before .args .at) 0) (drop (c .before .before .before .args .at + 1) (c .before .before .before .args .src .now)) (c .if1 .taken))
 
 add-entity-at : tie.Need-add-entity-at
 add-entity-at c = search needs
@@ -34,70 +27,68 @@ entity-at-requires c κs = search needs
 enum-known-k : tie.Need-enum-known-k
 enum-known-k c = search needs
 
-returns-3 : tie.Need-returns-3
-returns-3 c =
+returns-2 : tie.Need-returns-2
+returns-2 c =
     let k = c .before .k .given in
-    sym (byte-hit (c .before .before .before .before .before .before .before .before .before .before .args .q) (getD (c .before .before .before .before .before .before .before .before .before .before .args .src .now) (c .before .before .before .before .before .before .before .before .before .before .args .at) 0) (drop (c .before .before .before .before .before .before .before .before .before .before .args .at + 1) (c .before .before .before .before .before .before .before .before .before .before .args .src .now)) (k .0 .0) (k .0 .1 .0) (c .before .before .before .before .before .if2 .left) (c .before .before .before .before .if3 .taken) (sym (c .before .before .before .entity-at .ensures) ∙ k .1))
+    sym (byte-hit (c .before .before .before .before .before .before .before .before .args .q) (getD (c .before .before .before .before .before .before .before .before .args .src .now) (c .before .before .before .before .before .before .before .before .args .at) 0) (drop (c .before .before .before .before .before .before .before .before .args .at + 1) (c .before .before .before .before .before .before .before .before .args .src .now)) (k .0 .0) (k .0 .1 .0) (c .before .before .before .before .before .if1 .left) (c .before .before .before .before .if2 .taken) (sym (c .before .before .before .entity-at .ensures) ∙ k .1))
 
 enum-known-k-2 : tie.Need-enum-known-k-2
 enum-known-k-2 c = search needs
 
-add-t13 : tie.Need-add-t13
-add-t13 c =
-    let s = drop (c .before .before .before .before .before .before .before .before .before .before .args .at + 1) (c .before .before .before .before .before .before .before .before .before .before .args .src .now) in
+add-t12 : tie.Need-add-t12
+add-t12 c =
+    let s = drop (c .before .before .before .before .before .before .before .before .args .at + 1) (c .before .before .before .before .before .before .before .before .args .src .now) in
     let k = c .before .k2 .given in
     let g : k .0 .0 ≤ length s = subst (λ (o : Found). foundLen o ≤ length s) (sym (c .before .before .before .entity-at .ensures) ∙ k .1) (entity-fits s) in
-    omega (arith, length-drop (c .before .before .before .before .before .before .before .before .before .before .args .at + 1) (c .before .before .before .before .before .before .before .before .before .before .args .src .now))
+    omega (arith, length-drop (c .before .before .before .before .before .before .before .before .args .at + 1) (c .before .before .before .before .before .before .before .before .args .src .now))
+
+returns-3 : tie.Need-returns-3
+returns-3 c =
+    let k = c .before .k2 .given in
+    sym (byte-miss (c .before .before .before .before .before .before .before .before .args .q) (getD (c .before .before .before .before .before .before .before .before .args .src .now) (c .before .before .before .before .before .before .before .before .args .at) 0) (drop (c .before .before .before .before .before .before .before .before .args .at + 1) (c .before .before .before .before .before .before .before .before .args .src .now)) (k .0 .0) (c .before .before .before .before .before .if1 .left) (c .before .before .before .before .if2 .taken) (sym (c .before .before .before .entity-at .ensures) ∙ k .1))
+
+add-t13 : tie.Need-add-t13
+add-t13 c = search needs
 
 returns-4 : tie.Need-returns-4
-returns-4 c =
-    let k = c .before .k2 .given in
-    sym (byte-miss (c .before .before .before .before .before .before .before .before .before .before .args .q) (getD (c .before .before .before .before .before .before .before .before .before .before .args .src .now) (c .before .before .before .before .before .before .before .before .before .before .args .at) 0) (drop (c .before .before .before .before .before .before .before .before .before .before .args .at + 1) (c .before .before .before .before .before .before .before .before .before .before .args .src .now)) (k .0 .0) (c .before .before .before .before .before .if2 .left) (c .before .before .before .before .if3 .taken) (sym (c .before .before .before .entity-at .ensures) ∙ k .1))
-
-add-t14 : tie.Need-add-t14
-add-t14 c = search needs
+returns-4 c = sym (byte-bracket (c .before .before .before .before .before .args .q) (getD (c .before .before .before .before .before .args .src .now) (c .before .before .before .before .before .args .at) 0) (drop (c .before .before .before .before .before .args .at + 1) (c .before .before .before .before .before .args .src .now)) (c .before .before .if1 .left) (c .before .if2 .left) (c .if3 .taken))
 
 returns-5 : tie.Need-returns-5
-returns-5 c = sym (byte-bracket (c .before .before .before .before .before .before .before .args .q) (getD (c .before .before .before .before .before .before .before .args .src .now) (c .before .before .before .before .before .before .before .args .at) 0) (drop (c .before .before .before .before .before .before .before .args .at + 1) (c .before .before .before .before .before .before .before .args .src .now)) (c .before .before .if2 .left) (c .before .if3 .left) (c .if4 .taken))
+returns-5 c = sym (byte-closed (c .before .before .before .before .before .before .before .args .q) (getD (c .before .before .before .before .before .before .before .args .src .now) (c .before .before .before .before .before .before .before .args .at) 0) (drop (c .before .before .before .before .before .before .before .args .at + 1) (c .before .before .before .before .before .before .before .args .src .now)) (c .before .before .before .before .if1 .left) (c .before .before .before .if2 .left) (c .before .before .if3 .left) (c .before .if4 .taken) (c .if5 .taken))
 
 returns-6 : tie.Need-returns-6
-returns-6 c = sym (byte-closed (c .before .before .before .before .before .before .before .before .before .args .q) (getD (c .before .before .before .before .before .before .before .before .before .args .src .now) (c .before .before .before .before .before .before .before .before .before .args .at) 0) (drop (c .before .before .before .before .before .before .before .before .before .args .at + 1) (c .before .before .before .before .before .before .before .before .before .args .src .now)) (c .before .before .before .before .if2 .left) (c .before .before .before .if3 .left) (c .before .before .if4 .left) (c .before .if5 .taken) (c .if6 .taken))
-
-returns-7 : tie.Need-returns-7
-returns-7 c = sym (byte-greater (c .before .before .before .before .before .before .before .before .before .args .q) (getD (c .before .before .before .before .before .before .before .before .before .args .src .now) (c .before .before .before .before .before .before .before .before .before .args .at) 0) (drop (c .before .before .before .before .before .before .before .before .before .args .at + 1) (c .before .before .before .before .before .before .before .before .before .args .src .now)) (c .before .before .before .before .if2 .left) (c .before .before .before .if3 .left) (c .before .before .if4 .left) (c .before .if5 .taken) (c .if6 .left))
+returns-6 c = sym (byte-greater (c .before .before .before .before .before .before .before .args .q) (getD (c .before .before .before .before .before .before .before .args .src .now) (c .before .before .before .before .before .before .before .args .at) 0) (drop (c .before .before .before .before .before .before .before .args .at + 1) (c .before .before .before .before .before .before .before .args .src .now)) (c .before .before .before .before .if1 .left) (c .before .before .before .if2 .left) (c .before .before .if3 .left) (c .before .if4 .taken) (c .if5 .left))
 
 class-requires : tie.Need-class-requires
 class-requires c κs = search needs
 
+returns-7 : tie.Need-returns-7
+returns-7 c =
+    let b = getD (c .before .before .before .before .before .before .before .before .args .src .now) (c .before .before .before .before .before .before .before .before .args .at) 0 in
+    sym (byte-other (c .before .before .before .before .before .before .before .before .args .q) b (drop (c .before .before .before .before .before .before .before .before .args .at + 1) (c .before .before .before .before .before .before .before .before .args .src .now)) false (c .before .before .before .before .before .if1 .left) (c .before .before .before .before .if2 .left) (c .before .before .before .if3 .left) (c .before .before .if4 .left) (legal-no b (c .before .class .ensures) (c .if6 .taken)))
+
 returns-8 : tie.Need-returns-8
 returns-8 c =
-    let b = getD (c .before .before .before .before .before .before .before .before .before .before .args .src .now) (c .before .before .before .before .before .before .before .before .before .before .args .at) 0 in
-    sym (byte-other (c .before .before .before .before .before .before .before .before .before .before .args .q) b (drop (c .before .before .before .before .before .before .before .before .before .before .args .at + 1) (c .before .before .before .before .before .before .before .before .before .before .args .src .now)) false (c .before .before .before .before .before .if2 .left) (c .before .before .before .before .if3 .left) (c .before .before .before .if4 .left) (c .before .before .if5 .left) (legal-no b (c .before .class .ensures) (c .if7 .taken)))
-
-returns-9 : tie.Need-returns-9
-returns-9 c =
-    let b = getD (c .before .before .before .before .before .before .before .before .before .before .args .src .now) (c .before .before .before .before .before .before .before .before .before .before .args .at) 0 in
-    sym (byte-other (c .before .before .before .before .before .before .before .before .before .before .args .q) b (drop (c .before .before .before .before .before .before .before .before .before .before .args .at + 1) (c .before .before .before .before .before .before .before .before .before .before .args .src .now)) true (c .before .before .before .before .before .if2 .left) (c .before .before .before .before .if3 .left) (c .before .before .before .if4 .left) (c .before .before .if5 .left) (legal-yes b (c .before .class .ensures) (c .if7 .left)))
+    let b = getD (c .before .before .before .before .before .before .before .before .args .src .now) (c .before .before .before .before .before .before .before .before .args .at) 0 in
+    sym (byte-other (c .before .before .before .before .before .before .before .before .args .q) b (drop (c .before .before .before .before .before .before .before .before .args .at + 1) (c .before .before .before .before .before .before .before .before .args .src .now)) true (c .before .before .before .before .before .if1 .left) (c .before .before .before .before .if2 .left) (c .before .before .before .if3 .left) (c .before .before .if4 .left) (legal-yes b (c .before .class .ensures) (c .if6 .left)))
 
 pub text-byte-spec : {M : Type 1} → statement M
 text-byte-spec =
     tie.close
     (tie.spec
     shared-slice-read-b
-    is-plain-requires
     returns
-    returns-2
     add-entity-at
     entity-at-requires
     enum-known-k
-    returns-3
+    returns-2
     enum-known-k-2
+    add-t12
+    returns-3
     add-t13
     returns-4
-    add-t14
     returns-5
     returns-6
-    returns-7
     class-requires
-    returns-8
-    returns-9)
+    returns-7
+    returns-8)

@@ -1,137 +1,89 @@
--- `xml::scan::text_run` meets its contract. The invariant: the run from `at` is the run from `at + n`, after n bytes and q times `]`.
--- Assumes nothing.
-use mathlib.Core.Path.{_≡_, sym, _∙_, ap, subst}
-use Prim.Native.Nat.{ℕ, _+_, _-_, _≤_}
-use native.Mathlib.Nat.{add-zero}
+-- `xml::scan::text_run` meets its contract. The invariant: the run from `at` is the run from j, after q times `]`. Assumes nothing.
+use mathlib.Core.Path.{sym, _∙_}
+use Prim.Native.Nat.{_-_}
 use native.Mathlib.Omega.{arith}
 use borrow.Author.Needs.{needs}
-use lib.ListN.{length, drop, length-drop}
-use Rattle.xml.specs.Read.{scan}
-use Rattle.xml.specs.declared.Next.{Next}
-use Rattle.xml.specs.TextLaws.{Reach, here-reach, scan-end, scan-over, scan-off, scan-on}
+use lib.ListN.{length}
+use Rattle.xml.proofs.TextRuns.{Reached, run-start, run-end, run-over, run-off, run-on, off-fits, on-fits}
 use Rattle.xml.proofs.scan.text_run.Statement.{statement}
 use Rattle.xml.proofs.scan.text_run.Tie as tie
 
 abbrev Inv-loop : tie.InvT-loop
-Inv-loop src at n₀ q₀ n q =
-    (at + n ≤ length src) × (q ≤ n) × (scan 0 0 0 (drop at src) ≡ scan q 0 n (drop (at + n) src))
+Inv-loop src at j₀ q₀ j q = Reached src at j q
 
 abbrev μ-loop : tie.MeasureT-loop
-μ-loop src at n₀ q₀ n q = length src - (at + n)
+μ-loop src at j₀ q₀ j q = length src - j
+
+plain-run-requires : tie.Need-plain-run-requires Inv-loop μ-loop
+plain-run-requires c κs = search needs
 
 loop-holds : tie.Need-loop-holds Inv-loop μ-loop
-loop-holds c = (omega arith, omega arith, simp add-zero)
-
-add-loop : tie.Need-add-loop Inv-loop μ-loop
-add-loop c = omega arith
-
-add-text-byte : tie.Need-add-text-byte Inv-loop μ-loop
-add-text-byte c = omega arith
+loop-holds c = run-start (c .plain-run .ensures)
 
 text-byte-requires : tie.Need-text-byte-requires Inv-loop μ-loop
-text-byte-requires c κs = omega arith
+text-byte-requires c κs = let w = c .before .loop .inv in omega arith
 
 enum-told : tie.Need-enum-told Inv-loop μ-loop
 enum-told c = search needs
 
+sub-t12 : tie.Need-sub-t12 Inv-loop μ-loop
+sub-t12 c = let w = c .before .before .before .before .loop .inv in omega arith
+
 returns : tie.Need-returns Inv-loop μ-loop
-returns c =
-    let src = c .before .before .before .before .before .before .args .src .now in
-    let at = c .before .before .before .before .before .before .args .at in
-    let n = c .before .before .before .before .loop .n in
-    let q = c .before .before .before .before .loop .q in
-    let i = c .before .before .before .before .loop .inv in
-    let e = c .before .before .text-byte .ensures in
-    sym (i .2 ∙ scan-over src q n (at + n) (omega arith) (sym e ∙ c .enum-told .given .1))
+returns c = let w = c .before .before .before .before .loop .inv in sym (run-over w (omega arith) (sym (c .before .before .text-byte .ensures) ∙ c .enum-told .given .1))
 
 enum-known-k : tie.Need-enum-known-k Inv-loop μ-loop
 enum-known-k c = search needs
 
-add-t12 : tie.Need-add-t12 Inv-loop μ-loop
-add-t12 c =
-    let src = c .before .before .before .before .before .before .before .args .src .now in
-    let at = c .before .before .before .before .before .before .before .args .at in
-    let n = c .before .before .before .before .before .loop .n in
-    let q = c .before .before .before .before .before .loop .q in
-    let i = c .before .before .before .before .before .loop .inv in
-    let e = c .before .before .before .text-byte .ensures in
+sub-t13 : tie.Need-sub-t13 Inv-loop μ-loop
+sub-t13 c = let w = c .before .before .before .before .before .loop .inv in omega arith
+
+add-t14 : tie.Need-add-t14 Inv-loop μ-loop
+add-t14 c =
+    let w = c .before .before .before .before .before .loop .inv in
     let k = c .before .k .given in
-    let r = subst (λ (x : Next). Reach q (length src - (at + n + 1)) x) (sym e ∙ k .1) (here-reach src q n (at + n)) in
-    omega arith
+    omega (arith, off-fits w (omega arith) (k .0 .0) (sym (c .before .before .before .text-byte .ensures) ∙ k .1))
 
 returns-2 : tie.Need-returns-2 Inv-loop μ-loop
 returns-2 c =
-    let src = c .before .before .before .before .before .before .before .args .src .now in
-    let at = c .before .before .before .before .before .before .before .args .at in
-    let n = c .before .before .before .before .before .loop .n in
-    let q = c .before .before .before .before .before .loop .q in
-    let i = c .before .before .before .before .before .loop .inv in
-    let e = c .before .before .before .text-byte .ensures in
     let k = c .before .k .given in
-    sym (i .2 ∙ scan-off src q n (at + n) (k .0 .0) (omega arith) (sym e ∙ k .1))
+    sym (run-off (c .before .before .before .before .before .loop .inv) (omega arith) (k .0 .0) (sym (c .before .before .before .text-byte .ensures) ∙ k .1))
 
 enum-known-k-2 : tie.Need-enum-known-k-2 Inv-loop μ-loop
 enum-known-k-2 c = search needs
 
-add-n : tie.Need-add-n Inv-loop μ-loop
-add-n c =
-    let src = c .before .before .before .before .before .before .before .args .src .now in
-    let at = c .before .before .before .before .before .before .before .args .at in
-    let n = c .before .before .before .before .before .loop .n in
-    let q = c .before .before .before .before .before .loop .q in
-    let i = c .before .before .before .before .before .loop .inv in
-    let e = c .before .before .before .text-byte .ensures in
-    let k = c .before .k2 .given in
-    let r = subst (λ (x : Next). Reach q (length src - (at + n + 1)) x) (sym e ∙ k .1) (here-reach src q n (at + n)) in
-    omega arith
+add-from : tie.Need-add-from Inv-loop μ-loop
+add-from c = let w = c .before .before .before .before .before .loop .inv in omega arith
 
-add-n-2 : tie.Need-add-n-2 Inv-loop μ-loop
-add-n-2 c =
-    let src = c .before .before .before .before .before .before .before .args .src .now in
-    let at = c .before .before .before .before .before .before .before .args .at in
-    let n = c .before .before .before .before .before .loop .n in
-    let q = c .before .before .before .before .before .loop .q in
-    let i = c .before .before .before .before .before .loop .inv in
-    let e = c .before .before .before .text-byte .ensures in
+add-from-2 : tie.Need-add-from-2 Inv-loop μ-loop
+add-from-2 c =
     let k = c .before .k2 .given in
-    let r = subst (λ (x : Next). Reach q (length src - (at + n + 1)) x) (sym e ∙ k .1) (here-reach src q n (at + n)) in
-    omega arith
+    omega (arith, on-fits (c .before .before .before .before .before .loop .inv) (omega arith) (k .0 .0) (k .0 .1 .0) (sym (c .before .before .before .text-byte .ensures) ∙ k .1))
+
+plain-run-requires-2 : tie.Need-plain-run-requires-2 Inv-loop μ-loop
+plain-run-requires-2 c κs =
+    let k = c .before .k2 .given in
+    omega (arith, on-fits (c .before .before .before .before .before .loop .inv) (omega arith) (k .0 .0) (k .0 .1 .0) (sym (c .before .before .before .text-byte .ensures) ∙ k .1))
+
+brackets-requires : tie.Need-brackets-requires Inv-loop μ-loop
+brackets-requires c κs = search needs
 
 loop-less : tie.Need-loop-less Inv-loop μ-loop
 loop-less c =
-    let src = c .before .before .before .before .before .before .before .args .src .now in
-    let at = c .before .before .before .before .before .before .before .args .at in
-    let n = c .before .before .before .before .before .loop .n in
-    let q = c .before .before .before .before .before .loop .q in
-    let i = c .before .before .before .before .before .loop .inv in
-    let e = c .before .before .before .text-byte .ensures in
-    let k = c .before .k2 .given in
-    let r = subst (λ (x : Next). Reach q (length src - (at + n + 1)) x) (sym e ∙ k .1) (here-reach src q n (at + n)) in
+    let w = c .before .before .before .before .before .before .before .loop .inv in
+    let p = c .before .plain-run2 .ensures in
     omega arith
 
 loop-again : tie.Need-loop-again Inv-loop μ-loop
 loop-again c =
-    let src = c .before .before .before .before .before .before .before .args .src .now in
-    let at = c .before .before .before .before .before .before .before .args .at in
-    let n = c .before .before .before .before .before .loop .n in
-    let q = c .before .before .before .before .before .loop .q in
-    let i = c .before .before .before .before .before .loop .inv in
-    let e = c .before .before .before .text-byte .ensures in
-    let k = c .before .k2 .given in
-    let r = subst (λ (x : Next). Reach q (length src - (at + n + 1)) x) (sym e ∙ k .1) (here-reach src q n (at + n)) in
-    let g : k .0 .0 ≤ length (drop (at + n + 1) src) = omega (arith, length-drop (at + n + 1) src) in
-    let on = scan-on src q n (at + n) (k .0 .0) (k .0 .1 .0) (omega arith) (sym e ∙ k .1) g in
-    let m : at + n + 1 + k .0 .0 ≡ at + (n + 1 + k .0 .0) = omega arith in
-    (omega arith, omega arith, i .2 ∙ on ∙ ap (λ (x : ℕ). scan (k .0 .1 .0) 0 (n + 1 + k .0 .0) (drop x src)) m)
+    let k = c .before .before .before .k2 .given in
+    run-on (c .before .before .before .before .before .before .before .loop .inv) (omega arith) (k .0 .0) (k .0 .1 .0) (c .before .plain-run2 .result) (c .brackets .result) (sym (c .before .before .before .before .before .text-byte .ensures) ∙ k .1) (c .before .plain-run2 .ensures) (c .brackets .ensures)
+
+sub-t16 : tie.Need-sub-t16 Inv-loop μ-loop
+sub-t16 c = let w = c .before .loop .inv in omega arith
 
 returns-3 : tie.Need-returns-3 Inv-loop μ-loop
-returns-3 c =
-    let src = c .before .before .before .args .src .now in
-    let at = c .before .before .before .args .at in
-    let n = c .before .loop .n in
-    let q = c .before .loop .q in
-    let i = c .before .loop .inv in
-    sym (i .2 ∙ scan-end src q n (at + n) (omega arith))
+returns-3 c = let w = c .before .loop .inv in sym (run-end w (omega arith))
 
 pub text-run-spec : {M : Type 1} → statement M
 text-run-spec =
@@ -139,18 +91,22 @@ text-run-spec =
     (tie.spec
     Inv-loop
     μ-loop
+    plain-run-requires
     loop-holds
-    add-loop
-    add-text-byte
     text-byte-requires
     enum-told
+    sub-t12
     returns
     enum-known-k
-    add-t12
+    sub-t13
+    add-t14
     returns-2
     enum-known-k-2
-    add-n
-    add-n-2
+    add-from
+    add-from-2
+    plain-run-requires-2
+    brackets-requires
     loop-less
     loop-again
+    sub-t16
     returns-3)

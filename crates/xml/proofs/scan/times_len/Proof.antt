@@ -1,81 +1,63 @@
--- `xml::scan::times_len` meets its contract. The invariant: n bytes were of times, and the rest of them is what stands after them.
--- Assumes nothing.
-use mathlib.Core.Path.{_≡_, sym, _∙_}
-use Prim.Native.Nat.{_+_, _-_, _<_, _≤_}
-use native.Mathlib.Nat.{add-zero, zero-add}
+-- `xml::scan::times_len` meets its contract: its parts pass over bytes of times, and the last stops at another byte or the end. Assumes nothing.
 use native.Mathlib.Omega.{arith}
 use borrow.Author.Needs.{needs}
-use borrow.Author.Tests.{not-true, not-false}
-use lib.ListN.{length, drop}
-use Rattle.xml.specs.Read.{timesLen}
-use Rattle.xml.specs.ScanLaws.{timesLen-end, timesLen-stop, timesLen-more}
+use Rattle.xml.specs.Stretch.{passed-on, times-within, times-after, times-there}
 use Rattle.xml.proofs.scan.times_len.Statement.{statement}
 use Rattle.xml.proofs.scan.times_len.Tie as tie
 
-abbrev Inv-loop : tie.InvT-loop
-Inv-loop src at n₀ n = (at + n ≤ length src) × (timesLen (drop at src) ≡ n + timesLen (drop (at + n) src))
+sub-if1 : tie.Need-sub-if1
+sub-if1 c = search needs
 
-abbrev μ-loop : tie.MeasureT-loop
-μ-loop src at n₀ n = length src - (at + n)
+times-bytes-requires : tie.Need-times-bytes-requires
+times-bytes-requires c κs = search needs
 
-loop-holds : tie.Need-loop-holds Inv-loop μ-loop
-loop-holds c = (omega arith, simp (zero-add, add-zero))
+sub-result : tie.Need-sub-result
+sub-result c = search needs
 
-add-loop : tie.Need-add-loop Inv-loop μ-loop
-add-loop c = omega arith
+returns : tie.Need-returns
+returns c = times-there (c .times-bytes .ensures)
 
-add-is-times : tie.Need-add-is-times Inv-loop μ-loop
-add-is-times c = omega arith
+add-times-bytes : tie.Need-add-times-bytes
+add-times-bytes c = search needs
 
-shared-slice-read-is-times : tie.Need-shared-slice-read-is-times Inv-loop μ-loop
-shared-slice-read-is-times c = omega arith
+times-bytes-requires-2 : tie.Need-times-bytes-requires-2
+times-bytes-requires-2 c κs = search needs
 
-is-times-requires : tie.Need-is-times-requires Inv-loop μ-loop
-is-times-requires c κs = search needs
+add-if2 : tie.Need-add-if2
+add-if2 c = search needs
 
-returns : tie.Need-returns Inv-loop μ-loop
-returns c =
-    let src = c .before .before .before .before .before .before .args .src .now in
-    let at = c .before .before .before .before .before .before .args .at in
-    let n = c .before .before .before .before .loop .n in
-    let h : at + n < length src = omega arith in
-    omega (arith, timesLen-stop src (at + n) h (sym (c .before .is-times .ensures) ∙ not-true (c .before .is-times .result) (c .if1 .taken)))
+sub-result-2 : tie.Need-sub-result-2
+sub-result-2 c = search needs
 
-add-n : tie.Need-add-n Inv-loop μ-loop
-add-n c = omega arith
+returns-2 : tie.Need-returns-2
+returns-2 c = times-there (times-within (c .before .times-bytes2 .ensures) (c .if2 .taken) (omega arith))
 
-loop-less : tie.Need-loop-less Inv-loop μ-loop
-loop-less c = omega arith
+times-blocks-requires : tie.Need-times-blocks-requires
+times-blocks-requires c κs = search needs
 
-loop-again : tie.Need-loop-again Inv-loop μ-loop
-loop-again c =
-    let src = c .before .before .before .before .before .before .args .src .now in
-    let at = c .before .before .before .before .before .before .args .at in
-    let n = c .before .before .before .before .loop .n in
-    let h : at + n < length src = omega arith in
-    let more = timesLen-more src (at + n) (at + (n + 1)) h (sym (c .before .is-times .ensures) ∙ not-false (c .before .is-times .result) (c .if1 .left)) (omega arith) in
-    (omega arith, omega arith)
+times-bytes-requires-3 : tie.Need-times-bytes-requires-3
+times-bytes-requires-3 c κs = search needs
 
-returns-2 : tie.Need-returns-2 Inv-loop μ-loop
-returns-2 c =
-    let src = c .before .before .before .args .src .now in
-    let at = c .before .before .before .args .at in
-    let n = c .before .loop .n in
-    omega (arith, timesLen-end src (at + n) (omega arith))
+sub-result-3 : tie.Need-sub-result-3
+sub-result-3 c = search needs
+
+returns-3 : tie.Need-returns-3
+returns-3 c = times-there (times-after (passed-on (c .before .before .before .times-bytes2 .ensures .passed) (c .before .times-blocks .ensures)) (c .times-bytes3 .ensures))
 
 pub times-len-spec : {M : Type 1} → statement M
 times-len-spec =
     tie.close
     (tie.spec
-    Inv-loop
-    μ-loop
-    loop-holds
-    add-loop
-    add-is-times
-    shared-slice-read-is-times
-    is-times-requires
+    sub-if1
+    times-bytes-requires
+    sub-result
     returns
-    add-n
-    loop-less
-    loop-again
-    returns-2)
+    add-times-bytes
+    times-bytes-requires-2
+    add-if2
+    sub-result-2
+    returns-2
+    times-blocks-requires
+    times-bytes-requires-3
+    sub-result-3
+    returns-3)

@@ -1,0 +1,31 @@
+-- `front::set_mark` meets its contract. Assumes nothing.
+use borrow.Author.Needs.{needs}
+use Rattle.legality.specs.Seen.{seen-set}
+use Rattle.legality.proofs.front.set_mark.Statement.{statement}
+use Rattle.legality.proofs.front.set_mark.Tie as tie
+
+cast-v : tie.Need-cast-v
+cast-v c = search needs
+
+shl-seen : tie.Need-shl-seen
+shl-seen c = search needs
+
+mul-seen : tie.Need-mul-seen
+mul-seen c = search needs
+
+element-copy-out-seen : tie.Need-element-copy-out-seen
+element-copy-out-seen c = search needs
+
+mul-seen-2 : tie.Need-mul-seen-2
+mul-seen-2 c = search needs
+
+element-write-seen : tie.Need-element-write-seen
+element-write-seen c = search needs
+
+returns : tie.Need-returns
+returns c = seen-set (c .before .args .seen .now) (c .before .args .m) (c .before .pre)
+
+pub set-mark-spec : {M : Type 1} → statement M
+set-mark-spec =
+    tie.close
+    (tie.spec cast-v shl-seen mul-seen element-copy-out-seen mul-seen-2 element-write-seen returns)

@@ -1,0 +1,129 @@
+-- A number of a text read at once: what both readers of a text make of it is what they make of its digits.
+use Prim.Native.Nat.{ℕ, _+_, _-_, _*_, _/_, _%_, _≤_, _<_, min}
+use mathlib.Core.Path.{_≡_, refl, sym, ap, ap₂, _∙_}
+use mathlib.Core.List.{[], _∷_, _++_}
+use mathlib.Core.Bool.{Bool, true, false, _&&_}
+use native.Mathlib.Omega.{arith}
+use native.Mathlib.Numerals.{add-one}
+use lib.Dec.{leb}
+use lib.ListN.{length, getD, drop}
+use lib.Seq.{drop-cons}
+use borrow.Author.Tests.{lt-ltb, le-ltb, leb-true, ne-eqb}
+use Rattle.xml.specs.Bytes.{Bytes, isDigit}
+use Rattle.xml.specs.Truth.{and-left, and-right}
+use Rattle.timestamp.specs.TimesLaws.{digit-low, digit-high}
+use Rattle.timestamp.specs.Belongs.{rests, step-digit}
+use Rattle.timestamp.specs.Digits.{digit, digits, by-digits}
+use Rattle.timestamp.specs.Reading.{st, bad, pickS, steps}
+use Rattle.timestamp.specs.Accepts.{digits-steps}
+use Rattle.timestamp.specs.Sound.{steps-bad}
+use Rattle.timestamp.specs.declared.text.Span.{Span}
+
+-- from the place `at`, with the number m so far, to the place `to`, with the number n: nothing is read, or n in decimal where m is 0
+pub data Onward (l : Bytes) (at m n to : ℕ) : Type 0 where
+  stays : n ≡ m → to ≡ at → Onward l at m n to
+  reads : m ≡ 0 → 1 ≤ n → n < 1000 → drop at l ≡ digits n ++ drop to l → at ≤ to → to ≤ length l → Onward l at m n to
+
+-- the first digit of a number of 1 to 999
+abbrev pub isFirst : ℕ → Bool
+isFirst b = leb 49 b && leb b 57
+
+-- ---- how a number is read of its bytes
+drop-one : (l : Bytes) (at : ℕ) → at + 1 ≤ length l → drop at l ≡ getD l at 0 ∷ drop (at + 1) l
+drop-one l at h = drop-cons l at 0 (omega arith) ∙ rw (add-one at)
+
+drop-two : (l : Bytes) (at : ℕ) → at + 2 ≤ length l → drop at l ≡ getD l at 0 ∷ getD l (at + 1) 0 ∷ drop (at + 2) l
+drop-two l at h =
+    let e : at + 1 + 1 ≡ at + 2 = omega arith in
+    drop-one l at (omega arith) ∙ ap (λ (s : Bytes). getD l at 0 ∷ s) (drop-one l (at + 1) (omega arith) ∙ ap (λ (k : ℕ). getD l (at + 1) 0 ∷ drop k l) e)
+
+drop-three : (l : Bytes) (at : ℕ) → at + 3 ≤ length l → drop at l ≡ getD l at 0 ∷ getD l (at + 1) 0 ∷ getD l (at + 2) 0 ∷ drop (at + 3) l
+drop-three l at h =
+    let e : at + 2 + 1 ≡ at + 3 = omega arith in
+    drop-two l at (omega arith)
+    ∙ ap (λ (s : Bytes). getD l at 0 ∷ getD l (at + 1) 0 ∷ s) (drop-one l (at + 2) (omega arith) ∙ ap (λ (k : ℕ). getD l (at + 2) 0 ∷ drop k l) e)
+
+-- the digits of a number, from the bytes
+module _ (a : ℕ) (f : isFirst a ≡ true) where
+  pub low : 49 ≤ a
+  low = leb-true 49 a (and-left (leb 49 a) (leb a 57) f)
+
+  pub high : a ≤ 57
+  high = leb-true a 57 (and-right (leb 49 a) (leb a 57) f)
+
+  one-is : (n : ℕ) → n ≡ a - 48 → (1 ≤ n) × (n < 1000) × (digits n ≡ a ∷ [])
+  unfolding digits
+  one-is n e =
+      let x : 48 + n ≡ a = omega (arith, low) in
+      (omega (arith, low), omega (arith, high), rw (lt-ltb n 10 (omega (arith, high))) (ap (λ (b : ℕ). b ∷ []) x))
+
+  two-is : (n b : ℕ) → isDigit b ≡ true → n ≡ a * 10 + b - 528 → (1 ≤ n) × (n < 1000) × (digits n ≡ a ∷ b ∷ [])
+  unfolding digits
+  two-is n b g e =
+      let u = low in
+      let v = high in
+      let w = digit-low b g in
+      let x = digit-high b g in
+      let y : 48 + n / 10 ≡ a = omega arith in
+      let z : 48 + n % 10 ≡ b = omega arith in
+      (omega arith, omega arith, rw (le-ltb n 10 (omega arith), lt-ltb n 100 (omega arith)) (ap₂ (λ (i j : ℕ). i ∷ j ∷ []) y z))
+
+  three-is : (n b c : ℕ) → isDigit b ≡ true → isDigit c ≡ true → n ≡ a * 100 + b * 10 + c - 5328 → (1 ≤ n) × (n < 1000) × (digits n ≡ a ∷ b ∷ c ∷ [])
+  unfolding digits
+  three-is n b c g h e =
+      let u = low in
+      let v = high in
+      let w = digit-low b g in
+      let x = digit-high b g in
+      let w′ = digit-low c h in
+      let x′ = digit-high c h in
+      let i : 48 + n / 100 ≡ a = omega arith in
+      let j : 48 + n / 10 % 10 ≡ b = omega arith in
+      let k : 48 + n % 10 ≡ c = omega arith in
+      (omega arith, omega arith, rw (le-ltb n 10 (omega arith), le-ltb n 100 (omega arith), i, j, k) refl)
+
+module _ (l : Bytes) (at n : ℕ) (f : isFirst (getD l at 0) ≡ true) where
+  pub reads-one : at + 1 ≤ length l → n ≡ getD l at 0 - 48 → Onward l at 0 n (at + 1)
+  reads-one h e =
+      let x = one-is (getD l at 0) f n e in
+      reads refl (x .0) (x .1) (drop-one l at h ∙ ap (λ (s : Bytes). s ++ drop (at + 1) l) (sym (x .2))) (omega arith) h
+
+  pub reads-two : at + 2 ≤ length l → isDigit (getD l (at + 1) 0) ≡ true → n ≡ getD l at 0 * 10 + getD l (at + 1) 0 - 528 → Onward l at 0 n (at + 2)
+  reads-two h g e =
+      let x = two-is (getD l at 0) f n (getD l (at + 1) 0) g e in
+      reads refl (x .0) (x .1) (drop-two l at h ∙ ap (λ (s : Bytes). s ++ drop (at + 2) l) (sym (x .2))) (omega arith) h
+
+  pub reads-three : at + 3 ≤ length l → isDigit (getD l (at + 1) 0) ≡ true → isDigit (getD l (at + 2) 0) ≡ true
+      → n ≡ getD l at 0 * 100 + getD l (at + 1) 0 * 10 + getD l (at + 2) 0 - 5328 → Onward l at 0 n (at + 3)
+  reads-three h g k e =
+      let x = three-is (getD l at 0) f n (getD l (at + 1) 0) (getD l (at + 2) 0) g k e in
+      reads refl (x .0) (x .1) (drop-three l at h ∙ ap (λ (s : Bytes). s ++ drop (at + 3) l) (sym (x .2))) (omega arith) h
+
+-- ---- what the readers make of it
+module _ {l : Bytes} {at m n to : ℕ} where
+  pub onward-most : Onward l at m n to → (b : ℕ) → 999 ≤ b → m ≤ b → n ≤ b
+  onward-most (stays e f) b h k = omega arith
+  onward-most (reads z p q e f g) b h k = omega arith
+
+  pub onward-to : Onward l at m n to → at ≤ length l → (at ≤ to) × (to ≤ length l)
+  onward-to (stays e f) h = (omega arith, omega arith)
+  onward-to (reads z p q e f g) h = (f, g)
+
+  pub onward-steps : Onward l at m n to → (s : ℕ → Bool) (p lo : ℕ) (ok : Bool) → steps (pickS ok (st s p lo m) bad) (drop at l) ≡ steps (pickS ok (st s p lo n) bad) (drop to l)
+  onward-steps (stays e f) s p lo ok = rw (e, f)
+  onward-steps (reads z i j e f g) s p lo true = rw (z, e) (digits-steps s p lo n (drop to l) i j)
+  onward-steps (reads z i j e f g) s p lo false = steps-bad (drop at l) ∙ sym (steps-bad (drop to l))
+
+abbrev pub span : ℕ → ℕ → ℕ → Span
+span k a n = record { dashes = k; lo = a; n = n }
+
+rests-digit : (k a v n d : ℕ) (s : Bytes) → n < 100 → d < 10 → 0 < n + d → rests (span k a n) (digit d ∷ s) v ≡ rests (span k a (n * 10 + d)) s v
+unfolding rests
+rests-digit k a v n d s h i j =
+    let e : min 1000 (10 * n + (48 + d - 48)) ≡ n * 10 + d = omega arith in
+    rw (ne-eqb (48 + d) 44 (λ z. omega arith), rests)
+    (ap (λ (x : Span). rests x s v) (step-digit (span k a n) (48 + d) (λ z. omega arith) ∙ ap (span k a) e))
+
+pub onward-rests : {l : Bytes} {at m n to : ℕ} → Onward l at m n to → (k a v : ℕ) → rests (span k a m) (drop at l) v ≡ rests (span k a n) (drop to l) v
+onward-rests (stays e f) k a v = rw (e, f)
+onward-rests {l} {n = n} {to = to} (reads z i j e f g) k a v = rw (z, e) (by-digits (λ x s. rests (span k a x) s v) (rests-digit k a v) n (drop to l) i j)
