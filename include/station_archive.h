@@ -11,8 +11,9 @@
  * The caller owes what C cannot check: each pointer is to as many bytes as the length beside it says, and
  * neither out nor *length overlaps anything else that the call is lent. The texts are only read.
  * The calls keep no state and allocate nothing, and of C's library use memcpy and memset alone. Their work cells
- * (64 KiB) are on the caller's stack, of which a call takes some 96 KB at most (measured, not proved: 86,719 bytes in
- * tests/bench, 91,544 with key levels and elements as deep as they may be).
+ * (64 KiB) and the draft of an add (32 KiB) are on the caller's stack, of which an add takes some 127 KB at most and
+ * any other call some 93 KB (measured, not proved: 126,271 and 92,335 bytes in tests/bench, with key levels and
+ * elements as deep as they may be).
  */
 #ifndef STATION_ARCHIVE_H
 #define STATION_ARCHIVE_H
@@ -27,7 +28,7 @@ extern "C" {
 /* What a call returns: 0, or a row of document 01's table "When a text is sent back". */
 enum archive_number {
     ARCHIVE_DONE = 0,         /* success */
-    ARCHIVE_WORK = 1,         /* work under 16,384 cells: cannot be here, as each entry has 16,384 of its own */
+    ARCHIVE_WORK = 1,         /* work under 16,384 cells: cannot be here, as each entry has cells of its own */
     ARCHIVE_LENGTH = 2,       /* key list over 4,096 bytes, version over 16,384, archive over 32,768, or address over 2,560 */
     ARCHIVE_NOTATION = 3,     /* key list not in the notation */
     ARCHIVE_RULES = 4,        /* key list breaks a rule */

@@ -1,17 +1,19 @@
 -- The call that adds a version: its steps, and what they ask and say.
-use Prim.Native.Nat.{ℕ, _+_, _<_, _≤_}
+use Prim.Native.Nat.{ℕ, _+_, _<_, _≤_, min}
 use native.Mathlib.Omega.{arith}
-use mathlib.Core.Path.{_≡_, refl, sym, _∙_, ap, ap₂}
+use mathlib.Core.Path.{_≡_, refl, sym, _∙_, ap, ap₂, subst}
 use mathlib.Core.Bool.{Bool, true, false, _||_}
 use mathlib.Core.List.{List}
 use lib.Dec.{eqb, ltb}
-use lib.ListN.{length}
+use lib.ListN.{length, take, drop}
+use lib.Seq.{take-all, take-at, slice}
 use borrow.Author.Tests.{lt-ltb, le-ltb, ltb-false, eq-eqb, ne-eqb}
 use Rattle.xml.specs.Bytes.{Bytes}
 use Rattle.xml.specs.Forest.{Forest, write, nodes}
-use Rattle.xml.specs.Over.{over}
+use Rattle.xml.specs.Over.{over, Wrote}
 use Rattle.xml.specs.Tape.{Tape}
-use Rattle.xml.specs.OverLaws.{wrote-over}
+use Rattle.xml.specs.OverLaws.{length-over, wrote-over}
+use Rattle.xml.specs.Truth.{or-right}
 use Rattle.keys.specs.Result.{Result, numberOf, refused, _>>=_, _>>_, refuse, r10, r11, r13, r14}
 use Rattle.keys.specs.KeyList.{KeyList, keyList}
 use Rattle.keys.specs.Version.{version}
@@ -94,10 +96,11 @@ not-refused true b e = absurd (omega arith)
 not-refused false true e = absurd (omega arith)
 not-refused false false e = (refl, refl)
 
--- an archive has this size
-pub record SizeIs (g : Forest) (r : Size) : Type 0 where
+-- an archive has this size, and lies on the draft if that can hold it
+pub record Drafted (g : Forest) (r : Size) (draft : List ℕ) : Type 0 where
   pub nodes-are : r .nodes ≡ nodes g
   pub bytes-are : r .bytes ≡ length (write g)
+  pub lies : r .bytes ≤ length draft → take (r .bytes) draft ≡ write g
 
 module _ (g : Forest) (out : List ℕ) where
   refused-as : {number : ℕ} (a b : Bool) → (ltb 1024 (nodes g) || ltb 32768 (length (write g))) ≡ a → ltb (length out) (length (write g)) ≡ b → number ≡ pickRefusal a b
@@ -107,16 +110,25 @@ module _ (g : Forest) (out : List ℕ) where
   refused-as false true p q e z = test-passed _ r13 p (test-refused _ r14 out q e (ap (λ k. eqb k 1) e))
   refused-as false false p q e z = absurd (z e)
 
-  module _ {r : Size} (x : SizeIs g r) {number : ℕ} (e : number ≡ refusalOf (r .nodes) (r .bytes) (length out)) where
-    store-refused : (number ≡ 0 → ⊥) → Gives (storeIn g (length out)) number 0 out out
-    store-refused z = refused-as _ _ refl refl (e ∙ ap₂ (λ c d. refusalOf c d (length out)) (x .nodes-are) (x .bytes-are)) z
+module _ (count size out : ℕ) {number : ℕ} (e : number ≡ refusalOf count size out) (d : number ≡ 0) where
+  stored-as : ((ltb 1024 count || ltb 32768 size) ≡ false) × (ltb out size ≡ false)
+  stored-as = not-refused (ltb 1024 count || ltb 32768 size) (ltb out size) (sym d ∙ e)
 
-    store-done : {left : List ℕ} → number ≡ 0 → left ≡ over out (write g) → Gives (storeIn g (length out)) 0 (r .bytes) out left
-    unfolding storable
-    store-done d o =
-        let y = not-refused (ltb 1024 (r .nodes) || ltb 32768 (r .bytes)) (ltb (length out) (r .bytes)) (sym d ∙ e) in
-        let z : (ltb 1024 (nodes g) || ltb 32768 (length (write g))) ≡ false = ap₂ (λ c d. ltb 1024 c || ltb 32768 d) (sym (x .nodes-are)) (sym (x .bytes-are)) ∙ y .0 in
-        test-passed _ r13 z (give-done (write g) out (x .bytes-are) (ltb-false (length out) (r .bytes) (y .1)) o)
+  -- a size that is not refused
+  pub stored-small : size ≤ 32768
+  stored-small = ltb-false 32768 size (or-right (ltb 1024 count) (ltb 32768 size) (stored-as .0))
+
+module _ (g : Forest) (out : List ℕ) {draft : List ℕ} {r : Size} (x : Drafted g r draft) {number : ℕ} (e : number ≡ refusalOf (r .nodes) (r .bytes) (length out)) where
+  pub store-refused : (number ≡ 0 → ⊥) → Gives (storeIn g (length out)) number 0 out out
+  store-refused z = refused-as g out _ _ refl refl (e ∙ ap₂ (λ c d. refusalOf c d (length out)) (x .nodes-are) (x .bytes-are)) z
+
+  pub store-done : {count : ℕ} {left : List ℕ} → number ≡ 0 → min (r .bytes) 32768 ≤ length draft → Wrote out 0 (slice 0 (r .bytes) draft) count left → Gives (storeIn g (length out)) 0 count out left
+  unfolding storable
+  store-done {count} {left} d l w =
+      let y = stored-as (r .nodes) (r .bytes) (length out) e d in
+      let z : (ltb 1024 (nodes g) || ltb 32768 (length (write g))) ≡ false = ap₂ (λ c d. ltb 1024 c || ltb 32768 d) (sym (x .nodes-are)) (sym (x .bytes-are)) ∙ y .0 in
+      let p = wrote-over (subst (λ s. Wrote out 0 s count left) (x .lies (omega (arith, l, stored-small (r .nodes) (r .bytes) (length out) e d))) w) in
+      test-passed _ r13 z (give-done (write g) out (p .0) (omega (arith, p .0, x .bytes-are, ltb-false (length out) (r .bytes) (y .1))) (p .1))
 
 -- ---- a legal archive and a version received
 module _ {text : Bytes} {table : List ℕ} {paths : ℕ} {src cells : List ℕ} {hi n : ℕ} {vsrc vcells : List ℕ} {vhi : ℕ}
@@ -157,16 +169,22 @@ module _ {text : Bytes} {table : List ℕ} {paths : ℕ} {src cells : List ℕ} 
   pub adding-few : {count : ℕ} → ((f : Forest) → Tape src cells 0 hi f → count ≡ nodes f) → count ≤ 1024
   adding-few c = omega (arith, c (x .forest) (x .adding .tape), legal-few (x .keyList) (x .forest) (x .adding .legal))
 
--- its size, by what `add` answers
-pub grown-size : {g f : Forest} {none rest : List ℕ} {most reach : ℕ} {r : Added} {count : ℕ} → Grew none 0 g f most reach r rest → count ≡ nodes f → SizeIs g (record { nodes = count + r .fresh; bytes = r .at })
-grown-size {r = r} x c = record { nodes-are = ap (λ k. k + r .fresh) c ∙ sym (x .count); bytes-are = wrote-over (x .wrote) .0 }
+-- what is written from the start lies there, if it can hold it
+over-lies : (out w : List ℕ) → length w ≤ length out → take (length w) (over out w) ≡ w
+unfolding over
+over-lies out w l = rw (take-all (length out) w l) (take-at w (drop (length w) out) (length w) refl)
 
--- and the steps of the call
-module _ (K : KeyList) (n : ℕ) (v f : Forest) (out : List ℕ) (z : n ≡ 999 → ⊥) {r : Size} (x : SizeIs (addForest K n v f) r)
-    {number : ℕ} (e : number ≡ refusalOf (r .nodes) (r .bytes) (length out)) where
-  pub grown-refused : (number ≡ 0 → ⊥) → Gives (addTo K n v (length out) f) number 0 out out
-  grown-refused d = test-passed _ r11 (ne-eqb n 999 z) (store-refused (addForest K n v f) out x e d)
+wrote-lies : {out left : List ℕ} {r : ℕ} {w : List ℕ} → Wrote out 0 w r left → r ≤ length left → take r left ≡ w
+wrote-lies {out} {left} {r} {w} x l =
+    let y = wrote-over x in
+    rw (y .0, y .1) (over-lies out w (omega (arith, l, y .0, ap (λ t. length t) (y .1), length-over out w)))
 
-  pub grown-done : {most reach : ℕ} {a : Added} {left : List ℕ} → number ≡ 0 → Grew out 0 (addForest K n v f) f most reach a left
-      → Gives (addTo K n v (length out) f) 0 (r .bytes) out left
-  grown-done d y = test-passed _ r11 (ne-eqb n 999 z) (store-done (addForest K n v f) out x e d (wrote-over (y .wrote) .1))
+-- drafted, by what `add` answers
+pub grown-draft : {g f : Forest} {blank draft : List ℕ} {most reach : ℕ} {r : Added} {count : ℕ} → Grew blank 0 g f most reach r draft → count ≡ nodes f
+    → Drafted g (record { nodes = count + r .fresh; bytes = r .at }) draft
+grown-draft {r = r} x c = record { nodes-are = ap (λ k. k + r .fresh) c ∙ sym (x .count); bytes-are = wrote-over (x .wrote) .0; lies = wrote-lies (x .wrote) }
+
+-- and stored
+pub add-stored : (K : KeyList) (n : ℕ) (v f : Forest) (out : List ℕ) {number size : ℕ} {left : List ℕ} → (n ≡ 999 → ⊥) → Gives (storeIn (addForest K n v f) (length out)) number size out left
+    → Gives (addTo K n v (length out) f) number size out left
+add-stored K n v f out z g = test-passed _ r11 (ne-eqb n 999 z) g

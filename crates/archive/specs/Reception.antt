@@ -16,11 +16,11 @@ use Rattle.xml.specs.declared.Reply.{Reply}
 use Rattle.xml.specs.declared.Reply.the-variants.{Done as Reads, Wrong, Full}
 use Rattle.keys.specs.Result.{Refusal, numberOf, r5, r6, r7, r8, r9, refused, ok}
 use Rattle.keys.specs.KeyList.{KeyList}
-use Rattle.keys.specs.Version.{version, parsed, dropWhite, tooLarge, misplaced, unkeyed, ordered}
+use Rattle.keys.specs.Version.{version, parsed, dropWhite, tooLarge, misplaced, unkeyed, doubled, ordered}
 use Rattle.keys.specs.Table.{Table}
 use Rattle.keys.specs.Loading.{Tabled}
 use Rattle.keys.specs.Walks.{Walk, OfVersion, walk-top}
-use Rattle.keys.specs.Arrange.{VersionFit, Ordered, Refused, AnswerOf, Answers}
+use Rattle.keys.specs.Arrange.{VersionFit, Ordered, AnswerOf, Answers}
 use Rattle.keys.specs.declared.arrange.Arranged.{Arranged}
 use Rattle.keys.specs.declared.arrange.Arranged.the-variants.{Done as Arranges, Double}
 use Rattle.archive.specs.declared.received.Received.{Received}
@@ -65,14 +65,14 @@ module _ (src before cells : List ℕ) {r : Reply} where
   pub read-full : r ≡ Full → Replied false src before cells r → length src ≤ length cells → (p : ℕ) × (read false src ≡ broken p)
   read-full e x l = full-broken false src cells (subst (Replied false src before cells) e x) l
 
-module _ {keyText : Bytes} {table : List ℕ} {n : ℕ} {src cells : List ℕ} {count : ℕ} (out : List ℕ) {left : List ℕ} {r : Arranged} where
-  pub arranged-done : {m : ℕ} → r ≡ Arranges m → Answers keyText table n src cells count out left r
+module _ {keyText : Bytes} {table : List ℕ} {n : ℕ} {src cells : List ℕ} {count : ℕ} (left : List ℕ) {r : Arranged} where
+  pub arranged-done : {m : ℕ} → r ≡ Arranges m → Answers keyText table n src cells count left r
       → (K : KeyList) (f : Forest) → Table keyText table n K → Tape src cells 0 count f → Ordered K (dropWhite K [] f) src left m
-  arranged-done e x K f t h = subst (AnswerOf K (dropWhite K [] f) src out left) e (x K f t h)
+  arranged-done e x K f t h = subst (AnswerOf K (dropWhite K [] f) src left) e (x K f t h)
 
-  pub arranged-double : r ≡ Double → Answers keyText table n src cells count out left r
-      → (K : KeyList) (f : Forest) → Table keyText table n K → Tape src cells 0 count f → Refused K (dropWhite K [] f) out left
-  arranged-double e x K f t h = subst (AnswerOf K (dropWhite K [] f) src out left) e (x K f t h)
+  pub arranged-double : r ≡ Double → Answers keyText table n src cells count left r
+      → (K : KeyList) (f : Forest) → Table keyText table n K → Tape src cells 0 count f → doubled K [] (dropWhite K [] f) ≡ true
+  arranged-double e x K f t h = subst (AnswerOf K (dropWhite K [] f) src left) e (x K f t h)
 
 -- ---- the three tests' answers
 abbrev pub Large : Bytes → List ℕ → ℕ → List ℕ → List ℕ → ℕ → Bool → Type 0
@@ -120,7 +120,7 @@ module _ {keyText : Bytes} {table : List ℕ} {n : ℕ} {src cells : List ℕ} {
               keyed = sym (k (t .keys) (t .table) (g .forest) (g .tape)) ∙ h;
             }
 
-        pub sent-9 : {out left : List ℕ} → ((K : KeyList) (f : Forest) → Table keyText table n K → Tape src cells 0 count f → Refused K (dropWhite K [] f) out left)
+        pub sent-9 : ((K : KeyList) (f : Forest) → Table keyText table n K → Tape src cells 0 count f → doubled K [] (dropWhite K [] f) ≡ true)
             → (K : KeyList) → Table keyText table n K → SentBack K src 9
         unfolding version parsed numberOf
         sent-9 x K t =
@@ -128,7 +128,7 @@ module _ {keyText : Bytes} {table : List ℕ} {n : ℕ} {src cells : List ℕ} {
               row = r9;
               number-is = refl;
               later = refl;
-              is = rw (g .is, large a e K t, sym (m K t (g .forest) (g .tape)) ∙ d, sym (k K t (g .forest) (g .tape)) ∙ h, x K (g .forest) t (g .tape) .twice);
+              is = rw (g .is, large a e K t, sym (m K t (g .forest) (g .tape)) ∙ d, sym (k K t (g .forest) (g .tape)) ∙ h, x K (g .forest) t (g .tape));
             }
 
         pub received : {left : List ℕ} {j : ℕ} → ((K : KeyList) (f : Forest) → Table keyText table n K → Tape src cells 0 count f → Ordered K (dropWhite K [] f) src left j)

@@ -16,6 +16,7 @@ ghost use Rattle.keys.specs.KeyList.{KeyList};
 ghost use Rattle.keys.specs.Table.{Table as TableOf};
 ghost use Rattle.keys.specs.Loading.{Tabled};
 ghost use Rattle.versions.specs.Calls.{stepBack};
+ghost use Rattle.legality.specs.Opened.{Roomy};
 ghost use Rattle.archive.specs.Giving.{Gives, Ends};
 ghost use Rattle.archive.specs.BackCall.{earlierText};
 ghost use Rattle.archive.specs.Asking.{Lies, Reaches, asked, askedOf, askedIn};
@@ -74,7 +75,7 @@ fn step_back_under(
     out: &mut [u8],
     work: &mut [u32],
 ) -> Answer
-    requires { ⌜ Tabled (now text) (now table) paths × (length (now archive) ≤ 32768) × (16384 ≤ length (now work)) ⌝ }
+    requires { ⌜ Tabled (now text) (now table) paths × (length (now archive) ≤ 32768) × Roomy (now archive) (now work) ⌝ }
     ensures { λ r. ⌜ ((K : KeyList) → TableOf (now (text .entry)) (now (table .entry)) paths K
         → Gives (askedOf (earlierText i) K (now (archive .entry)) i (length (now (out .entry)))) (r .number) (r .length) (now (out .entry)) (now (out .exit))) ⌝ }
 {
@@ -88,8 +89,14 @@ fn step_back_under(
 }
 
 // Steps back to version i, with room to work in.
-fn step_back_in(keys: &[u8], archive: &[u8], i: usize, out: &mut [u8], work: &mut [u32]) -> Answer
-    requires { ⌜ 16384 ≤ length (now work) ⌝ }
+pub fn step_back_in(
+    keys: &[u8],
+    archive: &[u8],
+    i: usize,
+    out: &mut [u8],
+    work: &mut [u32],
+) -> Answer
+    requires { ⌜ Roomy (now archive) (now work) ⌝ }
     ensures { λ r. ⌜ Gives (askedIn (earlierText i) (now (keys .entry)) (now (archive .entry)) i (length (now (out .entry))))
         (r .number) (r .length) (now (out .entry)) (now (out .exit)) ⌝ }
 {

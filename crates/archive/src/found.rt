@@ -18,6 +18,7 @@ ghost use Rattle.keys.specs.KeyList.{KeyList};
 ghost use Rattle.keys.specs.Table.{Table as TableOf};
 ghost use Rattle.keys.specs.Loading.{Tabled};
 ghost use Rattle.versions.specs.Calls.{give, found as founded};
+ghost use Rattle.legality.specs.Opened.{Roomy};
 ghost use Rattle.archive.specs.Giving.{Gives, Ends};
 ghost use Rattle.archive.specs.Founding.{firstText};
 ghost use Rattle.archive.specs.FoundLaws.{FirstOn, foundOf, foundIn};
@@ -74,7 +75,7 @@ fn found_under(
     out: &mut [u8],
     work: &mut [u32],
 ) -> Answer
-    requires { ⌜ Tabled (now text) (now table) n × (length (now version) ≤ 16384) × (16384 ≤ length (now work)) ⌝ }
+    requires { ⌜ Tabled (now text) (now table) n × (length (now version) ≤ 16384) × Roomy (now version) (now work) ⌝ }
     ensures { λ r. ⌜ ((K : KeyList) → TableOf (now (text .entry)) (now (table .entry)) n K
         → Gives (foundOf K (now (version .entry)) (length (now (out .entry)))) (r .number) (r .length) (now (out .entry)) (now (out .exit))) ⌝ }
 {
@@ -86,8 +87,8 @@ fn found_under(
 }
 
 // Founds an archive, with room to work in.
-fn found_in(keys: &[u8], version: &[u8], out: &mut [u8], work: &mut [u32]) -> Answer
-    requires { ⌜ 16384 ≤ length (now work) ⌝ }
+pub fn found_in(keys: &[u8], version: &[u8], out: &mut [u8], work: &mut [u32]) -> Answer
+    requires { ⌜ Roomy (now version) (now work) ⌝ }
     ensures { λ r. ⌜ Gives (foundIn (now (keys .entry)) (now (version .entry)) (length (now (out .entry)))) (r .number) (r .length) (now (out .entry)) (now (out .exit)) ⌝ }
 {
     if 4096 < keys.len() {

@@ -16,6 +16,7 @@ ghost use Rattle.keys.specs.KeyList.{KeyList};
 ghost use Rattle.keys.specs.Table.{Table as TableOf};
 ghost use Rattle.keys.specs.Loading.{Tabled};
 ghost use Rattle.versions.specs.Calls.{give, history as historyAnswer};
+ghost use Rattle.legality.specs.Opened.{Roomy};
 ghost use Rattle.archive.specs.Giving.{Gives, Ends};
 ghost use Rattle.walks.specs.HistoryParts.{HistoryAsked, OfHistory};
 ghost use Rattle.archive.specs.HistoryCall.{SomeArchive, historyFor, historyUnder, historyFrom};
@@ -111,7 +112,7 @@ fn history_under(
     out: &mut [u8],
     work: &mut [u32],
 ) -> Answer
-    requires { ⌜ Tabled (now text) (now table) paths × (length (now archive) ≤ 32768) × (length (now address) ≤ 2560) × (16384 ≤ length (now work)) ⌝ }
+    requires { ⌜ Tabled (now text) (now table) paths × (length (now archive) ≤ 32768) × (length (now address) ≤ 2560) × Roomy (now archive) (now work) ⌝ }
     ensures { λ r. ⌜ ((K : KeyList) → TableOf (now (text .entry)) (now (table .entry)) paths K
         → Gives (historyUnder K (now (archive .entry)) (now (address .entry)) (length (now (out .entry)))) (r .number) (r .length) (now (out .entry)) (now (out .exit))) ⌝ }
 {
@@ -125,14 +126,14 @@ fn history_under(
 }
 
 // Gives the history of an address, with room to work in.
-fn history_in(
+pub fn history_in(
     keys: &[u8],
     archive: &[u8],
     address: &[u8],
     out: &mut [u8],
     work: &mut [u32],
 ) -> Answer
-    requires { ⌜ 16384 ≤ length (now work) ⌝ }
+    requires { ⌜ Roomy (now archive) (now work) ⌝ }
     ensures { λ r. ⌜ Gives (historyFrom (now (keys .entry)) (now (archive .entry)) (now (address .entry)) (length (now (out .entry)))) (r .number) (r .length) (now (out .entry)) (now (out .exit)) ⌝ }
 {
     if 4096 < keys.len() {

@@ -8,6 +8,7 @@ use xml::Reply;
 use xml::reader::read;
 ghost use Prim.Native.Nat.{_≤_};
 ghost use lib.ListN.{length};
+ghost use Rattle.legality.specs.Opened.{Roomy};
 ghost use Rattle.archive.specs.Reception.{OnTape, Receives};
 ghost use Rattle.keys.specs.Loading.{Tabled};
 
@@ -54,7 +55,7 @@ pub fn receive(
     work: &mut [u32],
     canon: &mut [u32],
 ) -> Received
-    requires { ⌜ Tabled (now text) (now table) n × (length (now src) ≤ 16384) × (16384 ≤ length (now work)) × (1024 ≤ length (now canon)) ⌝ }
+    requires { ⌜ Tabled (now text) (now table) n × (length (now src) ≤ 16384) × Roomy (now src) (now work) × (1024 ≤ length (now canon)) ⌝ }
     ensures { λ r. ⌜ Receives (now (text .entry)) (now (table .entry)) n (now (src .entry)) (now (canon .exit)) r ⌝ }
 {
     match read(src, false, work) {

@@ -1,11 +1,18 @@
 // The monitor's C entries: the six calls on numbers and byte slices, each with work cells of its own.
 // In C a slice is a pointer and a length (include/station_archive.h).
-use archive::add::add_version;
-use archive::back::step_back;
+mod cells;
+
 use archive::check_keys::check_keys;
-use archive::found::found;
-use archive::history::give_history;
-use archive::retrieve::retrieve;
+use cells::add_long;
+use cells::add_short;
+use cells::back_long;
+use cells::back_short;
+use cells::found_long;
+use cells::found_short;
+use cells::history_long;
+use cells::history_short;
+use cells::retrieve_long;
+use cells::retrieve_short;
 ghost use mathlib.Core.Path.{_≡_};
 ghost use lib.ListN.{length as sizeOf};
 ghost use Rattle.versions.specs.Calls.{checkKeys, found as foundOf, add as addOf, retrieve as retrieveOf, history as historyOf, stepBack as stepBackOf};
@@ -13,6 +20,9 @@ ghost use Rattle.firmware.specs.Told.{Told};
 
 // The work cells of an entry.
 const CELLS: usize = 16384;
+
+// The work cells of an entry whose texts have at most as many bytes: they ask for no more.
+const FEW: usize = 1024;
 
 // Checks a key list.
 #[no_mangle]
@@ -36,8 +46,12 @@ pub extern "C" fn archive_found(
     ensures { λ r. ⌜ Told (foundOf (now (keys .entry)) (now (version .entry)) (sizeOf (now (out .entry))) 16384)
         (now (out .entry)) r (now (length .exit)) (now (out .exit)) ⌝ }
 {
-    let mut work = [0u32; CELLS];
-    let answer = found(keys, version, out, &mut work);
+    if version.len() <= FEW {
+        let answer = found_short(keys, version, out);
+        *length = answer.length;
+        return answer.number;
+    }
+    let answer = found_long(keys, version, out);
     *length = answer.length;
     answer.number
 }
@@ -54,8 +68,14 @@ pub extern "C" fn archive_add(
     ensures { λ r. ⌜ Told (addOf (now (keys .entry)) (now (version .entry)) (now (archive .entry)) (sizeOf (now (out .entry))) 16384)
         (now (out .entry)) r (now (length .exit)) (now (out .exit)) ⌝ }
 {
-    let mut work = [0u32; CELLS];
-    let answer = add_version(keys, archive, version, out, &mut work);
+    if archive.len() <= FEW {
+        if version.len() <= FEW {
+            let answer = add_short(keys, archive, version, out);
+            *length = answer.length;
+            return answer.number;
+        }
+    }
+    let answer = add_long(keys, archive, version, out);
     *length = answer.length;
     answer.number
 }
@@ -72,8 +92,12 @@ pub extern "C" fn archive_retrieve(
     ensures { λ r. ⌜ Told (retrieveOf (now (keys .entry)) (now (archive .entry)) i (sizeOf (now (out .entry))) 16384)
         (now (out .entry)) r (now (length .exit)) (now (out .exit)) ⌝ }
 {
-    let mut work = [0u32; CELLS];
-    let answer = retrieve(keys, archive, i, out, &mut work);
+    if archive.len() <= FEW {
+        let answer = retrieve_short(keys, archive, i, out);
+        *length = answer.length;
+        return answer.number;
+    }
+    let answer = retrieve_long(keys, archive, i, out);
     *length = answer.length;
     answer.number
 }
@@ -90,8 +114,12 @@ pub extern "C" fn archive_history(
     ensures { λ r. ⌜ Told (historyOf (now (keys .entry)) (now (archive .entry)) (now (address .entry)) (sizeOf (now (out .entry))) 16384)
         (now (out .entry)) r (now (length .exit)) (now (out .exit)) ⌝ }
 {
-    let mut work = [0u32; CELLS];
-    let answer = give_history(keys, archive, address, out, &mut work);
+    if archive.len() <= FEW {
+        let answer = history_short(keys, archive, address, out);
+        *length = answer.length;
+        return answer.number;
+    }
+    let answer = history_long(keys, archive, address, out);
     *length = answer.length;
     answer.number
 }
@@ -108,8 +136,12 @@ pub extern "C" fn archive_back(
     ensures { λ r. ⌜ Told (stepBackOf (now (keys .entry)) (now (archive .entry)) i (sizeOf (now (out .entry))) 16384)
         (now (out .entry)) r (now (length .exit)) (now (out .exit)) ⌝ }
 {
-    let mut work = [0u32; CELLS];
-    let answer = step_back(keys, archive, i, out, &mut work);
+    if archive.len() <= FEW {
+        let answer = back_short(keys, archive, i, out);
+        *length = answer.length;
+        return answer.number;
+    }
+    let answer = back_long(keys, archive, i, out);
     *length = answer.length;
     answer.number
 }

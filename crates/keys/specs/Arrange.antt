@@ -6,7 +6,7 @@ use mathlib.Core.Bool.{true, false, not, _&&_, _||_}
 use mathlib.Core.List.{List, []}
 use lib.Dec.{ltb}
 use lib.ListN.{length}
-use borrow.Author.Tests.{ltb-false}
+use borrow.Author.Tests.{ltb-false, eq-eqb, ne-eqb}
 use Rattle.xml.specs.Bytes.{Bytes, bytes, same}
 use Rattle.xml.specs.Truth.{clash, or-left, or-right}
 use Rattle.xml.specs.Forest.{Forest, end, elem, text, stamp, write, nodes, depth}
@@ -21,11 +21,7 @@ use Rattle.keys.specs.SortedKept.{sorted-placed, sorted-nodes}
 use Rattle.keys.specs.DropLaws.{unkeyed-drop, doubled-drop}
 use Rattle.keys.specs.Table.{Table}
 use Rattle.keys.specs.PlaceLaws.{place-root}
-use Rattle.keys.specs.Checked.{Checked}
-use Rattle.keys.specs.Doubles.{DoubledIn}
-use Rattle.keys.specs.Entries.{Few}
-use Rattle.keys.specs.Arranged.{few-tags}
-use Rattle.keys.specs.Building.{ContentFit, ContentBuilt}
+use Rattle.keys.specs.Building.{ContentFit, ContentArranged}
 use Rattle.keys.specs.declared.arrange.Arranged.{Arranged}
 use Rattle.keys.specs.declared.arrange.Arranged.the-variants.{Done, Double}
 
@@ -46,19 +42,15 @@ pub record Ordered (K : KeyList) (v : Forest) (src left : List ℕ) (m : ℕ) : 
   pub count : m ≡ nodes v
   pub few : m ≤ 512
 
--- 9 applies, and nothing is written
-pub record Refused (K : KeyList) (v : Forest) (out left : List ℕ) : Type 0 where
-  pub twice : doubled K [] v ≡ true
-  pub untouched : left ≡ out
-
-abbrev pub AnswerOf : KeyList → Forest → List ℕ → List ℕ → List ℕ → Arranged → Type 0
-AnswerOf K v src out left (Done m) = Ordered K v src left m
-AnswerOf K v src out left Double = Refused K v out left
+-- that, or 9 applies
+abbrev pub AnswerOf : KeyList → Forest → List ℕ → List ℕ → Arranged → Type 0
+AnswerOf K v src left (Done m) = Ordered K v src left m
+AnswerOf K v src left Double = doubled K [] v ≡ true
 
 -- whichever key list and forest they are
-abbrev pub Answers : Bytes → List ℕ → ℕ → List ℕ → List ℕ → ℕ → List ℕ → List ℕ → Arranged → Type 0
-Answers keyText table n src cells count out left r =
-    (K : KeyList) (f : Forest) → Table keyText table n K → Tape src cells 0 count f → AnswerOf K (dropWhite K [] f) src out left r
+abbrev pub Answers : Bytes → List ℕ → ℕ → List ℕ → List ℕ → ℕ → List ℕ → Arranged → Type 0
+Answers keyText table n src cells count left r =
+    (K : KeyList) (f : Forest) → Table keyText table n K → Tape src cells 0 count f → AnswerOf K (dropWhite K [] f) src left r
 
 -- where no element is a `T`, each node counts
 size-nodes : (K : KeyList) (p : Path) (f : Forest) → misplaced K p f ≡ false → size f ≡ nodes f
@@ -89,16 +81,8 @@ module _ {keyText : Bytes} {table : List ℕ} {n : ℕ} {src cells : List ℕ} {
   raw-keyed : unkeyed (g .keyList) [] (g .forest) ≡ false
   raw-keyed = sym (unkeyed-drop (g .keyList) (rules-kept keyText (g .keyList) (g .tabled .accepted)) [] (g .forest)) ∙ g .keyed
 
-  pub version-checked : Checked keyText table n 128 src cells 0 count
-  version-checked =
-      record { keyList = g .keyList; path = []; tabled = g .tabled; place-is = place-root (g .keyList); forest = g .forest; tape = g .tape; keyed = raw-keyed }
-
-  pub version-few : Few src cells 0 count
-  version-few f h =
-      rw (tape-one h (g .tape)) (omega (arith, few-tags (g .keyList) [] (g .forest), size-nodes (g .keyList) [] v (g .placed), few-nodes))
-
-  pub version-fits : DoubledIn keyText table n 128 src cells 0 count false → ContentFit keyText table n 128 src cells 0 count 0
-  version-fits d =
+  pub version-fits : ContentFit keyText table n 128 src cells 0 count 0
+  version-fits =
       record {
         keyList = g .keyList;
         path = [];
@@ -109,25 +93,25 @@ module _ {keyText : Bytes} {table : List ℕ} {n : ℕ} {src cells : List ℕ} {
         start = omega arith;
         placed = g .placed;
         keyed = raw-keyed;
-        single = sym (d (g .keyList) [] (g .tabled) (place-root (g .keyList)) (g .forest) (g .tape));
         fits = omega (arith, ordered-size, few-nodes);
       }
 
-  pub version-ordered : {out left : List ℕ} {m : ℕ} → DoubledIn keyText table n 128 src cells 0 count false → ContentBuilt keyText table n 128 src cells 0 count out 0 m left
+  pub version-ordered : {out left : List ℕ} {m : ℕ} → ContentArranged keyText table n 128 src cells 0 count out 0 m left → (m ≡ 513 → ⊥)
       → (K : KeyList) (f : Forest) → Table keyText table n K → Tape src cells 0 count f → Ordered K (dropWhite K [] f) src left m
-  version-ordered {left = left} {m = m} d b K f t h =
+  version-ordered {left = left} {m = m} b d K f t h =
       let e : g .keyList ≡ K = ok-inj (sym (g .tabled .accepted) ∙ t .accepted) in
-      let x = b .tape (g .keyList) [] (g .tabled) (place-root (g .keyList)) (g .forest) (g .tape) in
+      let x = b .built d .tape (g .keyList) [] (g .tabled) (place-root (g .keyList)) (g .forest) (g .tape) in
       let c : m ≡ nodes v = omega (arith, tape-size x, ordered-size) in
       subst (λ J. Ordered J (dropWhite J [] f) src left m) e (rw (tape-one h (g .tape))
       (record {
-        single = doubled-drop (g .keyList) (rules-kept keyText (g .keyList) (g .tabled .accepted)) [] (g .forest) ∙ sym (d (g .keyList) [] (g .tabled) (place-root (g .keyList)) (g .forest) (g .tape));
+        single = doubled-drop (g .keyList) (rules-kept keyText (g .keyList) (g .tabled .accepted)) [] (g .forest) ∙ sym (b .doubled-is (g .keyList) [] (g .tabled) (place-root (g .keyList)) (g .forest) (g .tape)) ∙ ne-eqb m 513 d;
         tape = x;
         count = c;
         few = omega (arith, few-nodes);
       }))
 
-pub version-twice : {keyText : Bytes} {table : List ℕ} {n : ℕ} {src cells : List ℕ} {count : ℕ} (out : List ℕ) → DoubledIn keyText table n 128 src cells 0 count true
-    → (K : KeyList) (f : Forest) → Table keyText table n K → Tape src cells 0 count f → Refused K (dropWhite K [] f) out out
-version-twice {keyText} out d K f t h =
-    record { twice = doubled-drop K (rules-kept keyText K (t .accepted)) [] f ∙ sym (d K [] t (place-root K) f h); untouched = refl }
+pub version-twice : {keyText : Bytes} {table : List ℕ} {n : ℕ} {src cells : List ℕ} {count : ℕ} {out left : List ℕ} {m : ℕ}
+    → ContentArranged keyText table n 128 src cells 0 count out 0 m left → m ≡ 513
+    → (K : KeyList) (f : Forest) → Table keyText table n K → Tape src cells 0 count f → doubled K [] (dropWhite K [] f) ≡ true
+version-twice {keyText} {m = m} b e K f t h =
+    doubled-drop K (rules-kept keyText K (t .accepted)) [] f ∙ sym (b .doubled-is K [] t (place-root K) f h) ∙ eq-eqb m 513 e

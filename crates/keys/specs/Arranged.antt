@@ -8,11 +8,10 @@ use Rattle.xml.specs.Truth.{clash, bool-by}
 use Rattle.xml.specs.Forest.{Forest, end, elem, text, stamp}
 use Rattle.xml.specs.Tape.{size}
 use Rattle.keys.specs.KeyList.{Path, KeyList, above, keyNamesAt, rulesKept}
-use Rattle.keys.specs.Version.{_▸_, label, dropWhite, misplaced, unkeyed, doubled, insertBy, ordered}
+use Rattle.keys.specs.Version.{_▸_, label, dropWhite, misplaced, unkeyed, insertBy, ordered}
 use Rattle.keys.specs.Sorting.{misplaced-kids, misplaced-rest, ordered-elem, sorted}
 use Rattle.keys.specs.SortedKept.{sorted-size}
 use Rattle.keys.specs.SortedKeys.{sorted-label, keyed-here, keyed-kids, keyed-rest}
-use Rattle.keys.specs.SortedOnce.{single-kids, single-rest}
 use Rattle.keys.specs.DropLaws.{label-drop, unkeyed-drop}
 use Rattle.keys.specs.Labelled.{hasKeys}
 use Rattle.keys.specs.Siblings.{elements, tags, Each, eachWith, inOrder}
@@ -31,11 +30,10 @@ pub record Kid (K : KeyList) (p : Path) (n : Bytes) (k : Forest) : Type 0 where
   pub placed : misplaced K (p ▸ n) (dropWhite K (p ▸ n) k) ≡ false
   pub once : hasKeys (keyNamesAt K (p ▸ n)) k ≡ true
   pub keyed : unkeyed K (p ▸ n) k ≡ false
-  pub single : doubled K (p ▸ n) k ≡ false
   pub label-is : label K p n (arranged K (p ▸ n) k) ≡ label K p n k
 
 -- ---- no more elements than nodes are left
-pub few-tags : (K : KeyList) (p : Path) (f : Forest) → tags f ≤ size (dropWhite K p f)
+few-tags : (K : KeyList) (p : Path) (f : Forest) → tags f ≤ size (dropWhite K p f)
 unfolding tags size dropWhite
 few-tags K p end = omega arith
 few-tags K p (elem n k r) = omega (arith, few-tags K (p ▸ n) k, few-tags K p r)
@@ -47,7 +45,7 @@ few-tags K p (text b r) =
 pub arranged-tags : (K : KeyList) (p : Path) (f : Forest) → misplaced K p (dropWhite K p f) ≡ false → tags f ≤ size (arranged K p f)
 arranged-tags K p f m = rw (sorted-size K (sorted K p (dropWhite K p f) m)) (few-tags K p f)
 
--- ---- siblings above the frontiers that have passed 7, 8 and 9
+-- ---- siblings above the frontiers that have passed 7 and 8
 module _ (K : KeyList) (p : Path) (rules : rulesKept K ≡ true) (high : above K p ≡ true) where
   drop-elem : (n : Bytes) (k r : Forest) → dropWhite K p (elem n k r) ≡ elem n (dropWhite K (p ▸ n) k) (dropWhite K p r)
   unfolding dropWhite
@@ -82,20 +80,19 @@ module _ (K : KeyList) (p : Path) (rules : rulesKept K ≡ true) (high : above K
   unfolding misplaced dropWhite
   stamp-misplaced t k r e = clash e
 
-  kids-each : (f : Forest) → misplaced K p (dropWhite K p f) ≡ false → unkeyed K p f ≡ false → doubled K p f ≡ false → Each (Kid K p) f
-  kids-each end m u d = tt
-  kids-each (text b r) m u d = kids-each r (ap (misplaced K p) (sym (drop-text b r m)) ∙ m) (unfold unkeyed in u) (unfold doubled in d)
-  kids-each (stamp t k r) m u d = absurd (stamp-misplaced t k r m)
-  kids-each (elem n k r) m u d =
+  kids-each : (f : Forest) → misplaced K p (dropWhite K p f) ≡ false → unkeyed K p f ≡ false → Each (Kid K p) f
+  kids-each end m u = tt
+  kids-each (text b r) m u = kids-each r (ap (misplaced K p) (sym (drop-text b r m)) ∙ m) (unfold unkeyed in u)
+  kids-each (stamp t k r) m u = absurd (stamp-misplaced t k r m)
+  kids-each (elem n k r) m u =
       let w : misplaced K p (elem n (dropWhite K (p ▸ n) k) (dropWhite K p r)) ≡ false = rw (drop-elem n k r) at m in (
         record {
           placed = misplaced-kids K p n (dropWhite K (p ▸ n) k) (dropWhite K p r) w;
           once = keyed-here K p n k r u;
           keyed = keyed-kids K p n k r u;
-          single = single-kids K p n k r d;
           label-is = label-arranged n k r m u;
         },
-        kids-each r (misplaced-rest K p n (dropWhite K (p ▸ n) k) (dropWhite K p r) w) (keyed-rest K p n k r u) (single-rest K p n k r d),
+        kids-each r (misplaced-rest K p n (dropWhite K (p ▸ n) k) (dropWhite K p r) w) (keyed-rest K p n k r u),
       )
 
   labels-kept : (f : Forest) → Each (Kid K p) f → Each (LabelKept K p (λ n k. arranged K (p ▸ n) k)) f
@@ -114,9 +111,9 @@ module _ (K : KeyList) (p : Path) (rules : rulesKept K ≡ true) (high : above K
       arranged-elem n k r ∙ ap (insertBy K p n (arranged K (p ▸ n) k)) (arranged-each r (misplaced-rest K p n (dropWhite K (p ▸ n) k) (dropWhite K p r) w) (h .1))
       ∙ insert-with K p (λ m j. arranged K (p ▸ m) j) n k (inOrder K p (elements r)) (h .0 .label-is) (each-order K p (LabelKept K p (λ m j. arranged K (p ▸ m) j)) r (labels-kept r (h .1)))
 
-  module _ (f : Forest) (placed : misplaced K p (dropWhite K p f) ≡ false) (keyed : unkeyed K p f ≡ false) (single : doubled K p f ≡ false) where
+  module _ (f : Forest) (placed : misplaced K p (dropWhite K p f) ≡ false) (keyed : unkeyed K p f ≡ false) where
     pub order-kids : Each (Kid K p) (inOrder K p (elements f))
-    order-kids = each-order K p (Kid K p) f (kids-each f placed keyed single)
+    order-kids = each-order K p (Kid K p) f (kids-each f placed keyed)
 
     pub arranged-order : arranged K p f ≡ eachArranged K p (inOrder K p (elements f))
-    arranged-order = arranged-each f placed (kids-each f placed keyed single)
+    arranged-order = arranged-each f placed (kids-each f placed keyed)

@@ -1,5 +1,5 @@
 -- What a walk over the siblings of a version's tape knows of them: whose children they are, and that every element has its key children.
-use Prim.Native.Nat.{ℕ, _+_, _%_, _<_}
+use Prim.Native.Nat.{ℕ, _%_, _<_}
 use native.Mathlib.Omega.{arith}
 use mathlib.Core.Path.{_≡_, refl, sym, _∙_, subst}
 use mathlib.Core.Bool.{true, false}
@@ -7,12 +7,12 @@ use mathlib.Core.List.{List}
 use Rattle.xml.specs.Bytes.{Bytes}
 use Rattle.xml.specs.Truth.{clash}
 use Rattle.xml.specs.Forest.{Forest, text}
-use Rattle.xml.specs.Tape.{headAt, nextAt, Node, Tape, at-end, at-text, at-elem, at-stamp}
+use Rattle.xml.specs.Tape.{headAt, nextAt, Tape, at-end, at-text, at-elem, at-stamp}
 use Rattle.keys.specs.ResultLaws.{ok-inj}
 use Rattle.keys.specs.KeyList.{Path, KeyList, keyList, above}
 use Rattle.keys.specs.KeyListLaws.{rules-kept}
-use Rattle.keys.specs.Version.{_▸_, unkeyed}
-use Rattle.keys.specs.SortedKeys.{keyed-here, keyed-kids, keyed-rest}
+use Rattle.keys.specs.Version.{unkeyed}
+use Rattle.keys.specs.SortedKeys.{keyed-here, keyed-rest}
 use Rattle.keys.specs.Table.{placeOf, Table}
 use Rattle.keys.specs.Placed.{OfPlace}
 use Rattle.keys.specs.PlaceLaws.{place-own}
@@ -61,16 +61,4 @@ module _ {text : Bytes} {table : List ℕ} {n place : ℕ} {src cells : List ℕ
       go (at-text m v e t) u = absurd (omega (arith, m .kind-is))
       go (at-elem {n = m} {k = j} {r = r} o i t) u =
           record { keyList = g .keyList; path = g .path; tabled = g .tabled; place-is = g .place-is; name = m; kids = j; node = o; tape = i; once = keyed-here (g .keyList) (g .path) m j r u }
-      go (at-stamp m i t) u = absurd (omega (arith, m .kind-is))
-
-  -- and what it holds, at its own place
-  pub checked-kids : {p hi : ℕ} {own : ℕ} → Checked text table n place src cells p hi → p < hi → headAt cells p % 4 ≡ 1
-      → ((m : Bytes) → Node src cells p 1 m → OfPlace text table n place (λ K q. own ≡ placeOf K (q ▸ m))) → Checked text table n own src cells (p + 1) (nextAt cells p)
-  checked-kids {p} {hi} {own} g l k c = go (g .tape) (g .keyed)
-    where
-      go : {f : Forest} → Tape src cells p hi f → unkeyed (g .keyList) (g .path) f ≡ false → Checked text table n own src cells (p + 1) (nextAt cells p)
-      go (at-end e) u = absurd (omega arith)
-      go (at-text m v e t) u = absurd (omega (arith, m .kind-is))
-      go (at-elem {n = m} {k = j} {r = r} o i t) u =
-          record { keyList = g .keyList; path = g .path ▸ m; tabled = g .tabled; place-is = sym (c m o (g .keyList) (g .path) (g .tabled) (g .place-is)); forest = j; tape = i; keyed = keyed-kids (g .keyList) (g .path) m j r u }
       go (at-stamp m i t) u = absurd (omega (arith, m .kind-is))

@@ -1,12 +1,12 @@
 -- An array of the numbers of sibling elements: what its functions ask and answer, and the elements that its entries are.
-use Prim.Native.Nat.{ℕ, _+_, _-_, _<_, _≤_}
+use Prim.Native.Nat.{ℕ, suc, _+_, _-_, _<_, _≤_}
 use native.Mathlib.Omega.{arith}
-use mathlib.Core.Path.{_≡_, refl, _∙_, ap}
+use mathlib.Core.Path.{_≡_, refl, sym, _∙_, ap}
 use mathlib.Core.Bool.{true, false}
-use mathlib.Core.List.{List}
+use mathlib.Core.List.{List, [], _∷_, _++_, append-assoc}
 use lib.Dec.{eqb, ltb}
-use lib.ListN.{length, getD, set, length-set}
-use lib.Seq.{getD-set-same, getD-set-other}
+use lib.ListN.{length, getD, set, take, drop, length-append, length-drop, take-append-drop, List·getD-append}
+use lib.Seq.{slice, slice-empty, slice-cons, length-slice, length-take-le, take-suc, set-at, getD-at, getD-append-add, getD-drop, getD-take}
 use borrow.Author.Tests.{eqb-true, eqb-false, ltb-true, ltb-false}
 use Rattle.xml.specs.Bytes.{Bytes}
 use Rattle.xml.specs.Truth.{by-test}
@@ -35,7 +35,11 @@ pub data Lists (src cells : List ℕ) (lo hi : ℕ) (order : List ℕ) : ℕ →
 abbrev pub AllEntries : (ℕ → Type 0) → List ℕ → ℕ → Type 0
 AllEntries P order k = (i : ℕ) → i < k → P (getD order i 0)
 
--- p is put at j, and the entries from there to k are one further
+-- p put at j, and the entries from there to k one further
+unfoldable pub insertAt : ℕ → ℕ → ℕ → List ℕ → List ℕ
+insertAt k j p order = take j order ++ p ∷ (slice j k order ++ drop (suc k) order)
+
+-- what the first entries are then
 pub record Inserted (order : List ℕ) (k j p : ℕ) (left : List ℕ) : Type 0 where
   pub long : length left ≡ 512
   pub below : (i : ℕ) → i < j → getD left i 0 ≡ getD order i 0
@@ -69,14 +73,16 @@ pub record OrderIn (keyText : Bytes) (table : List ℕ) (n place : ℕ) (src cel
   pub small : r ≤ 513
   pub sorted : OfPlace keyText table n place (λ K q. (f : Forest) → Tape src cells lo hi f → Sorted K q src cells lo hi order f r)
 
--- the last of the entries i to j, and those before it
-pub record Last (src cells : List ℕ) (lo hi : ℕ) (order : List ℕ) (i j : ℕ) (s : Forest) : Type 0 where
+-- one of the entries i to j, those before it and those after it
+pub record Picked (src cells : List ℕ) (lo hi : ℕ) (order : List ℕ) (i x j : ℕ) (s : Forest) : Type 0 where
   pub init : Forest
   pub name : Bytes
   pub kids : Forest
-  pub is : s ≡ join init (elem name kids end)
-  pub left : Lists src cells lo hi order i (j - 1) init
-  pub entry : Entry src cells lo hi (getD order (j - 1) 0) name kids
+  pub rest : Forest
+  pub is : s ≡ join init (elem name kids rest)
+  pub left : Lists src cells lo hi order i x init
+  pub entry : Entry src cells lo hi (getD order x 0) name kids
+  pub right : Lists src cells lo hi order (x + 1) j rest
 
 module _ {src cells : List ℕ} {lo hi : ℕ} where
   pub lists-le : {order : List ℕ} {i j : ℕ} {s : Forest} → Lists src cells lo hi order i j s → i ≤ j
@@ -100,19 +106,18 @@ module _ {src cells : List ℕ} {lo hi : ℕ} where
       let w = h i i′ (omega arith) (omega (arith, lists-le r)) a in
       one-more {i = i′} {j = j′} {n = n} {k = k} {r = s} (rw w e) (lists-moved left d (i′ + 1) j′ r (omega arith) b (λ x y u v z. h x y (omega arith) v z))
 
-  pub lists-last : {order : List ℕ} {i j : ℕ} {s : Forest} → Lists src cells lo hi order i j s → i < j → Last src cells lo hi order i j s
+  pub lists-at : {order : List ℕ} {i j : ℕ} {s : Forest} (x : ℕ) → Lists src cells lo hi order i j s → i ≤ x → x < j → Picked src cells lo hi order i x j s
   unfolding join
-  lists-last (no-more e) l = absurd (omega arith)
-  lists-last {order} {i} {j} (one-more {n = n} {k = k} {r = s} e r) l =
-      by-test (eqb (i + 1) j)
-      (λ x.
-      let y : i + 1 ≡ j = eqb-true (i + 1) j x in
-      let z : i ≡ j - 1 = omega arith in
-      record { init = end; name = n; kids = k; is = ap (elem n k) (lists-none (rw y at r)); left = no-more z; entry = rw z at e })
-      (λ x.
-      let y = eqb-false (i + 1) j x in
-      let z = lists-last r (omega (arith, lists-le r)) in
-      record { init = elem n k (z .init); name = z .name; kids = z .kids; is = ap (elem n k) (z .is); left = one-more e (z .left); entry = z .entry })
+  lists-at x (no-more e) a l = absurd (omega arith)
+  lists-at {order} {i} {j} x (one-more {n = n} {k = k} {r = s} e r) a l =
+      by-test (eqb i x)
+      (λ t.
+      let z : i ≡ x = eqb-true i x t in
+      record { init = end; name = n; kids = k; rest = s; is = refl; left = no-more z; entry = rw z at e; right = rw z at r })
+      (λ t.
+      let d = eqb-false i x t in
+      let z = lists-at x r (omega arith) l in
+      record { init = elem n k (z .init); name = z .name; kids = z .kids; rest = z .rest; is = ap (elem n k) (z .is); left = one-more e (z .left); entry = z .entry; right = z .right })
 
 -- ---- an entry put in
 module _ {order : List ℕ} {k j p : ℕ} {left : List ℕ} (x : Inserted order k j p left) (inside : j ≤ k) where
@@ -130,36 +135,49 @@ module _ {order : List ℕ} {k j p : ℕ} {left : List ℕ} (x : Inserted order 
       let w = x .further (i - 1) (omega arith) (omega arith) in
       rw (e, w) (h (i - 1) (omega arith))))
 
--- entries from i to k are one further already
-pub record Shifted (order : List ℕ) (k i : ℕ) (now : List ℕ) : Type 0 where
-  pub long : length now ≡ 512
-  pub below : (x : ℕ) → x < i → getD now x 0 ≡ getD order x 0
-  pub further : (x : ℕ) → i ≤ x → x < k → getD now (x + 1) 0 ≡ getD order x 0
+pub inserted : {order : List ℕ} {k j p : ℕ} {left : List ℕ} → left ≡ insertAt k j p order → length order ≡ 512 → j ≤ k → k < 512 → Inserted order k j p left
+unfolding insertAt
+inserted {order} {k} {j} {p} e long inside room =
+    let t = length-take-le j order (omega arith) in
+    let s = length-slice j k order (omega arith) in
+    let rest = slice j k order ++ drop (suc k) order in
+    rw e
+    (record {
+      long = omega (arith, length-append (take j order) (p ∷ rest), length-append (slice j k order) (drop (suc k) order), length-drop (suc k) order);
+      below = λ i h. List·getD-append (take j order) (p ∷ rest) 0 i (omega arith) ∙ getD-take j order i 0 h;
+      here = getD-at (take j order) p rest 0 j t;
+      further = λ i a l.
+          let z : i + 1 ≡ length (take j order) + suc (i - j) = omega arith in
+          let w : j + (i - j) ≡ i = omega arith in
+          ap (λ x. getD (take j order ++ p ∷ rest) x 0) z ∙ getD-append-add (take j order) (p ∷ rest) (suc (i - j)) 0
+          ∙ List·getD-append (slice j k order) (drop (suc k) order) 0 (i - j) (omega arith) ∙ getD-drop j (take k order) (i - j) 0
+          ∙ ap (λ x. getD (take k order) x 0) w ∙ getD-take k order i 0 l;
+    })
 
-pub shifted-none : (order : List ℕ) (k : ℕ) → length order ≡ 512 → Shifted order k k order
-shifted-none order k l = record { long = l; below = λ x h. refl; further = λ x h g. absurd (omega arith) }
+-- ---- the entries from i to k are one further already
+unfoldable pub shiftedTo : ℕ → ℕ → List ℕ → List ℕ
+shiftedTo k i order = take (suc i) order ++ (slice i k order ++ drop (suc k) order)
 
-pub shifted-more : {order : List ℕ} {k i : ℕ} {now : List ℕ} → Shifted order k i now → 0 < i → i < 512 → Shifted order k (i - 1) (set now i (getD now (i - 1) 0))
-shifted-more {order} {k} {i} {now} s a b =
-    record {
-      long = simp length-set (s .long);
-      below = λ x h. getD-set-other now i x (getD now (i - 1) 0) 0 (omega arith) ∙ s .below x (omega arith);
-      further = λ x h g.
-          by-test (eqb (x + 1) i)
-          (λ t.
-          let e : x + 1 ≡ i = eqb-true (x + 1) i t in
-          let d : i - 1 ≡ x = omega arith in
-          rw (e, getD-set-same now i (getD now (i - 1) 0) 0 (omega (arith, s .long)), d) (s .below x (omega arith)))
-          (λ t.
-          let e = eqb-false (x + 1) i t in
-          getD-set-other now i (x + 1) (getD now (i - 1) 0) 0 (omega arith) ∙ s .further x (omega arith) g);
-    }
+module _ (order : List ℕ) (k : ℕ) (room : k < length order) where
+  pub shifted-none : order ≡ shiftedTo k k order
+  unfolding shiftedTo
+  shifted-none = sym (ap (λ x. take (suc k) order ++ (x ++ drop (suc k) order)) (slice-empty k order) ∙ take-append-drop (suc k) order)
 
-pub shifted-put : {order : List ℕ} {k j : ℕ} {now : List ℕ} (p : ℕ) → Shifted order k j now → j < 512 → Inserted order k j p (set now j p)
-shifted-put {order} {k} {j} {now} p s b =
-    record {
-      long = simp length-set (s .long);
-      below = λ x h. getD-set-other now j x p 0 (omega arith) ∙ s .below x h;
-      here = getD-set-same now j p 0 (omega (arith, s .long));
-      further = λ x h g. getD-set-other now j (x + 1) p 0 (omega arith) ∙ s .further x h g;
-    }
+  pub shifted-put : (i v : ℕ) → i ≤ k → set (shiftedTo k i order) i v ≡ insertAt k i v order
+  unfolding shiftedTo insertAt
+  shifted-put i v l =
+      let rest = slice i k order ++ drop (suc k) order in
+      ap (λ x. set x i v) (ap (λ x. x ++ rest) (take-suc order i 0 (omega arith)) ∙ append-assoc (take i order) (getD order i 0 ∷ []) rest)
+      ∙ set-at (take i order) (getD order i 0) rest v i (length-take-le i order (omega arith))
+
+  -- the one before i is moved, too
+  pub shifted-more : (i : ℕ) → 0 < i → i ≤ k → set (shiftedTo k i order) i (getD (shiftedTo k i order) (i - 1) 0) ≡ shiftedTo k (i - 1) order
+  unfolding shiftedTo insertAt
+  shifted-more i a l =
+      let v = getD order (i - 1) 0 in
+      let e : suc (i - 1) ≡ i = omega arith in
+      let t = length-take-le (suc i) order (omega arith) in
+      ap (set (shiftedTo k i order) i) (List·getD-append (take (suc i) order) (slice i k order ++ drop (suc k) order) 0 (i - 1) (omega arith) ∙ getD-take (suc i) order (i - 1) 0 (omega arith))
+      ∙ shifted-put i v l
+      ∙ sym (ap (λ x. take (suc (i - 1)) order ++ (x ++ drop (suc k) order)) (slice-cons (i - 1) k order 0 (omega arith) (omega arith))
+      ∙ ap (λ y. take y order ++ v ∷ (slice y k order ++ drop (suc k) order)) e)

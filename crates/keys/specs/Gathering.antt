@@ -1,13 +1,14 @@
 -- Siblings put in order on the tape: the search for a place among the entries, and the entries as the loop goes along.
-use Prim.Native.Nat.{ℕ, _+_, _-_, _%_, _<_, _≤_}
+use Prim.Native.Nat.{ℕ, _+_, _%_, _<_, _≤_}
 use native.Mathlib.Omega.{arith}
 use mathlib.Core.Path.{_≡_, refl, sym, _∙_, ap}
 use mathlib.Core.Bool.{true, false}
 use mathlib.Core.Ordering.{gt}
 use mathlib.Core.List.{List}
 use lib.ListN.{getD}
-use Rattle.xml.specs.Truth.{or-first, or-second}
-use Rattle.xml.specs.Forest.{Forest, end, elem, text, stamp, join}
+use Rattle.xml.specs.Truth.{or-second}
+use Rattle.xml.specs.Bytes.{Bytes}
+use Rattle.xml.specs.Forest.{Forest, end, elem, join}
 use Rattle.xml.specs.Complete.{join-end, join-assoc}
 use Rattle.xml.specs.Tape.{headAt, nextAt, Tape, at-end, at-text, at-elem, at-stamp}
 use Rattle.xml.specs.TapeLaws.{tape-le, tape-none}
@@ -20,58 +21,90 @@ use Rattle.keys.specs.SortedOnce.{same-turned}
 use Rattle.keys.specs.Ranks.{rank, rank-lt, rank-gt}
 use Rattle.keys.specs.LabelLaws.{same-label}
 use Rattle.keys.specs.Walks.{Parted}
-use Rattle.keys.specs.Siblings.{isAmong, elements, tags, inOrder, twins, Rises}
+use Rattle.keys.specs.Siblings.{isAmong, elements, tags, inOrder, twins, Rises, Ends}
 use Rattle.keys.specs.SiblingLaws.{among-elem, ends-join, among-join, among-order, order-last, twins-last, twins-hit, place-absent, place-insert, place-rises}
-use Rattle.keys.specs.Entries.{Entry, Lists, no-more, one-more, Inserted, Ranked, alike, between, Few, Sorted, Last, lists-le, lists-none, lists-join, lists-moved, lists-last}
+use Rattle.keys.specs.Entries.{Entry, Lists, no-more, one-more, Inserted, Ranked, alike, between, Sorted, Picked, lists-le, lists-none, lists-join, lists-moved, lists-at}
 
--- ---- the search, from the last entry down: those from j on have higher labels
-pub record Ranking (K : KeyList) (q : Path) (src cells : List ℕ) (lo hi : ℕ) (order : List ℕ) (k : ℕ) (l : Label) (s : Forest) (j : ℕ) : Type 0 where
+-- ---- the search: the entry before a has a lower label, that at e a higher one
+pub record Ranking (K : KeyList) (q : Path) (src cells : List ℕ) (lo hi : ℕ) (order : List ℕ) (k : ℕ) (l : Label) (s : Forest) (a e : ℕ) : Type 0 where
   pub low : Forest
+  pub mid : Forest
   pub high : Forest
-  pub is : s ≡ join low high
-  pub left : Lists src cells lo hi order 0 j low
-  pub right : Lists src cells lo hi order j k high
+  pub is : s ≡ join low (join mid high)
+  pub left : Lists src cells lo hi order 0 a low
+  pub middle : Lists src cells lo hi order a e mid
+  pub right : Lists src cells lo hi order e k high
+  pub ends : Ends K q l low
   pub first : First K q l high
 
+join-picked : (low init : Forest) (n : Bytes) (k rest high : Forest) → join low (join (join init (elem n k rest)) high) ≡ join low (join init (elem n k (join rest high)))
+unfolding join
+join-picked low init n k rest high = ap (join low) (join-assoc init (elem n k rest) high)
+
+join-passed : (low init : Forest) (n : Bytes) (k g : Forest) → join low (join init (elem n k g)) ≡ join (join (join low init) (elem n k end)) g
+unfolding join
+join-passed low init n k g = sym (join-assoc (join low init) (elem n k end) g ∙ join-assoc low init (elem n k g))
+
 module _ {K : KeyList} {q : Path} {src cells : List ℕ} {lo hi : ℕ} {order : List ℕ} {k : ℕ} {l : Label} {s : Forest} where
-  pub ranking-start : Lists src cells lo hi order 0 k s → Ranking K q src cells lo hi order k l s k
-  ranking-start t = record { low = s; high = end; is = sym (join-end s); left = t; right = no-more refl; first = tt }
+  pub ranking-start : Lists src cells lo hi order 0 k s → Ranking K q src cells lo hi order k l s 0 k
+  unfolding join
+  ranking-start t = record { low = end; mid = s; high = end; is = sym (join-end s); left = no-more refl; middle = t; right = no-more refl; ends = tt; first = tt }
 
-  pub ranking-none : {j : ℕ} → Ranking K q src cells lo hi order k l s j → j ≡ 0 → Ranked K q src cells lo hi order k l s 0
-  ranking-none {j} x e =
-      let z : x .low ≡ end = lists-none (rw e at (x .left)) in
-      between {low = end} {high = x .high} (x .is ∙ ap (λ g. join g (x .high)) z) (no-more refl) (rw e at (x .right)) tt (x .first)
+  pub ranking-done : {a e : ℕ} → Ranking K q src cells lo hi order k l s a e → e ≤ a → Ranked K q src cells lo hi order k l s a
+  unfolding join
+  ranking-done {a} {e} x d =
+      let z : e ≡ a = omega (arith, lists-le (x .middle)) in
+      let w : x .mid ≡ end = lists-none (rw z at (x .middle)) in
+      between (x .is ∙ ap (λ g. join (x .low) (join g (x .high))) w) (x .left) (rw z at (x .right)) (x .ends) (x .first)
 
-  module _ {j : ℕ} (x : Ranking K q src cells lo hi order k l s j) (a : 0 < j) where
-    pub ranking-last : Last src cells lo hi order 0 j (x .low)
-    ranking-last = lists-last (x .left) a
+  -- by one entry
+  module _ {a e : ℕ} (x : Ranking K q src cells lo hi order k l s a e) (m : ℕ) (low : a ≤ m) (high : m < e) where
+    pub ranking-at : Picked src cells lo hi order a m e (x .mid)
+    ranking-at = lists-at m (x .middle) low high
 
-    module _ (o : ℕ) (c : o ≡ rank (labels .cmp (label K q (ranking-last .name) (ranking-last .kids)) l)) where
-      pub ranking-below : o ≡ 0 → Ranked K q src cells lo hi order k l s j
-      ranking-below e =
-          let z = ranking-last in
-          between (x .is) (x .left) (x .right)
-          (rw (z .is) (ends-join K q l (z .init) (z .name) (z .kids) (rank-lt (labels .cmp (label K q (z .name) (z .kids)) l) (sym c ∙ e)))) (x .first)
+    picked-is : s ≡ join (x .low) (join (ranking-at .init) (elem (ranking-at .name) (ranking-at .kids) (join (ranking-at .rest) (x .high))))
+    picked-is =
+        let z = ranking-at in
+        x .is ∙ ap (λ g. join (x .low) (join g (x .high))) (z .is) ∙ join-picked (x .low) (z .init) (z .name) (z .kids) (z .rest) (x .high)
 
+    module _ (o : ℕ) (c : o ≡ rank (labels .cmp (label K q (ranking-at .name) (ranking-at .kids)) l)) where
       pub ranking-same : o ≡ 1 → Ranked K q src cells lo hi order k l s 513
-      ranking-same e =
-          let z = ranking-last in
-          let w = same-label (label K q (z .name) (z .kids)) l (sym c ∙ e) in
-          let h : isAmong K q l (x .low) ≡ true = ap (isAmong K q l) (z .is) ∙ among-join K q l (z .init) (elem (z .name) (z .kids) end)
-          ∙ or-second (isAmong K q l (z .init)) (isAmong K q l (elem (z .name) (z .kids) end)) (among-elem K q l (z .name) (z .kids) end (same-turned l (label K q (z .name) (z .kids)) ∙ w)) in
-          alike refl (ap (isAmong K q l) (x .is) ∙ among-join K q l (x .low) (x .high) ∙ or-first (isAmong K q l (x .low)) (isAmong K q l (x .high)) h)
+      ranking-same d =
+          let z = ranking-at in
+          let g = elem (z .name) (z .kids) (join (z .rest) (x .high)) in
+          let w = same-label (label K q (z .name) (z .kids)) l (sym c ∙ d) in
+          alike refl (ap (isAmong K q l) picked-is ∙ among-join K q l (x .low) (join (z .init) g) ∙ or-second (isAmong K q l (x .low)) (isAmong K q l (join (z .init) g))
+          (among-join K q l (z .init) g ∙ or-second (isAmong K q l (z .init)) (isAmong K q l g)
+          (among-elem K q l (z .name) (z .kids) (join (z .rest) (x .high)) (same-turned l (label K q (z .name) (z .kids)) ∙ w))))
 
-      pub ranking-more : (o ≡ 0 → ⊥) → (o ≡ 1 → ⊥) → Ranking K q src cells lo hi order k l s (j - 1)
-      ranking-more e f =
-          let z = ranking-last in
-          let y : j - 1 + 1 ≡ j = omega arith in
-          let g : labels .cmp (label K q (z .name) (z .kids)) l ≡ gt = rank-gt (labels .cmp (label K q (z .name) (z .kids)) l) (λ w. e (c ∙ w)) (λ w. f (c ∙ w)) in
+      pub ranking-above : o ≡ 0 → Ranking K q src cells lo hi order k l s (m + 1) e
+      ranking-above d =
+          let z = ranking-at in
           record {
-            low = z .init;
-            high = elem (z .name) (z .kids) (x .high);
-            is = x .is ∙ ap (λ w. join w (x .high)) (z .is) ∙ join-assoc (z .init) (elem (z .name) (z .kids) end) (x .high) ∙ unfold join in refl;
-            left = z .left;
-            right = one-more {i = j - 1} {j = k} {r = x .high} (z .entry) (rw y (x .right));
+            low = join (join (x .low) (z .init)) (elem (z .name) (z .kids) end);
+            mid = z .rest;
+            high = x .high;
+            is = picked-is ∙ join-passed (x .low) (z .init) (z .name) (z .kids) (join (z .rest) (x .high));
+            left = lists-join (lists-join (x .left) (z .left)) (one-more (z .entry) (no-more refl));
+            middle = z .right;
+            right = x .right;
+            ends = ends-join K q l (join (x .low) (z .init)) (z .name) (z .kids) (rank-lt (labels .cmp (label K q (z .name) (z .kids)) l) (sym c ∙ d));
+            first = x .first;
+          }
+
+      pub ranking-below : (o ≡ 0 → ⊥) → (o ≡ 1 → ⊥) → Ranking K q src cells lo hi order k l s a m
+      ranking-below d f =
+          let z = ranking-at in
+          let g : labels .cmp (label K q (z .name) (z .kids)) l ≡ gt = rank-gt (labels .cmp (label K q (z .name) (z .kids)) l) (λ w. d (c ∙ w)) (λ w. f (c ∙ w)) in
+          record {
+            low = x .low;
+            mid = z .init;
+            high = elem (z .name) (z .kids) (join (z .rest) (x .high));
+            is = picked-is;
+            left = x .left;
+            middle = z .left;
+            right = one-more (z .entry) (lists-join (z .right) (x .right));
+            ends = x .ends;
             first = flop labels g;
           }
 
@@ -154,25 +187,3 @@ module _ {K : KeyList} {q : Path} {src cells : List ℕ} {lo hi : ℕ} {f : Fore
         apart = λ d. ap (twins K q) w ∙ x .apart;
         lists = λ d. rw w (x .lists);
       }
-
--- ---- few elements: so of the nodes after the first, and of what it holds
-module _ {src cells : List ℕ} {p hi : ℕ} {f : Forest} (t : Tape src cells p hi f) (l : p < hi) (h : Few src cells p hi) where
-  pub few-next : Few src cells (nextAt cells p) hi
-  unfolding tags
-  few-next g u = go t
-    where
-      go : {s : Forest} → Tape src cells p hi s → tags g ≤ 512
-      go (at-end e) = absurd (omega arith)
-      go (at-text {b = b} n w e r) = h (text b g) (at-text n w e (rw e at u))
-      go (at-elem {n = n} {k = k} m i r) = omega (arith, h (elem n k g) (at-elem m i u))
-      go (at-stamp {t = n} {k = k} m i r) = omega (arith, h (stamp n k g) (at-stamp m i u))
-
-  pub few-kids : headAt cells p % 4 ≡ 1 → Few src cells (p + 1) (nextAt cells p)
-  unfolding tags
-  few-kids d g u = go t
-    where
-      go : {s : Forest} → Tape src cells p hi s → tags g ≤ 512
-      go (at-end e) = absurd (omega arith)
-      go (at-text n w e r) = absurd (omega (arith, n .kind-is))
-      go (at-elem {n = n} {r = r} m i s) = omega (arith, h (elem n g r) (at-elem m u s))
-      go (at-stamp m i r) = absurd (omega (arith, m .kind-is))

@@ -182,17 +182,27 @@ module _ (K : KeyList) (p : Path) where
   unfolding doubledKids
   kids-end = refl
 
-  pub kids-text : (b : Bytes) (r : Forest) → doubledKids K p (text b r) ≡ doubledKids K p r
-  unfolding doubledKids
-  kids-text b r = refl
-
-  pub kids-stamp : (t : Bytes) (k r : Forest) → doubledKids K p (stamp t k r) ≡ doubledKids K p r
-  unfolding doubledKids
-  kids-stamp t k r = refl
-
   pub kids-elem : (n : Bytes) (k r : Forest) → doubledKids K p (elem n k r) ≡ (doubled K (p ▸ n) k || doubledKids K p r)
   unfolding doubledKids
   kids-elem n k r = refl
+
+  kids-insert : (n : Bytes) (k s : Forest) → doubledKids K p (insertBy K p n k s) ≡ (doubled K (p ▸ n) k || doubledKids K p s)
+  unfolding insertBy doubledKids
+  kids-insert n k end = refl
+  kids-insert n k (text b r) = kids-insert n k r
+  kids-insert n k (stamp t j r) = kids-insert n k r
+  kids-insert n k (elem m j r) =
+      by-test (before (label K p n k) (label K p m j))
+      (λ x. ap (doubledKids K p) (insert-first n k m j r x))
+      (λ x. ap (doubledKids K p) (insert-later n k m j r x) ∙ ap (λ y. doubled K (p ▸ m) j || y) (kids-insert n k r)
+      ∙ or-swap (doubled K (p ▸ m) j) (doubled K (p ▸ n) k) (doubledKids K p r))
+
+  pub kids-order : (f : Forest) → doubledKids K p (inOrder K p (elements f)) ≡ doubledKids K p f
+  unfolding inOrder elements doubledKids
+  kids-order end = refl
+  kids-order (text b r) = kids-order r
+  kids-order (stamp t k r) = kids-order r
+  kids-order (elem n k r) = kids-insert n k (inOrder K p (elements r)) ∙ ap (λ x. doubled K (p ▸ n) k || x) (kids-order r)
 
   -- ---- an element's place among siblings that ascend: those before it have lower labels, the next a higher one
   abbrev Under : Label → Forest → Type 0

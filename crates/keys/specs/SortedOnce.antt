@@ -37,11 +37,11 @@ module _ (K : KeyList) (p : Path) (n : Bytes) (k r : Forest) (e : doubled K p (e
   unfolding doubled
   single-here = or-left (doubledIn K p n k r) (doubled K (p ▸ n) k) (or-left (doubledIn K p n k r || doubled K (p ▸ n) k) (doubled K p r) e)
 
-  pub single-kids : doubled K (p ▸ n) k ≡ false
+  single-kids : doubled K (p ▸ n) k ≡ false
   unfolding doubled
   single-kids = or-right (doubledIn K p n k r) (doubled K (p ▸ n) k) (or-left (doubledIn K p n k r || doubled K (p ▸ n) k) (doubled K p r) e)
 
-  pub single-rest : doubled K p r ≡ false
+  single-rest : doubled K p r ≡ false
   unfolding doubled
   single-rest = or-right (doubledIn K p n k r || doubled K (p ▸ n) k) (doubled K p r) e
 

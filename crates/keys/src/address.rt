@@ -6,6 +6,7 @@ use crate::places::key_count;
 use crate::places::key_name;
 use xml::class::is_name_byte;
 use xml::compare::same_bytes;
+use xml::scan::byte_at;
 use xml::tape::view_at;
 ghost use mathlib.Core.Path.{_≡_};
 ghost use mathlib.Core.List.{[]};
@@ -39,13 +40,6 @@ pub struct Parsed {
     pub count: usize,
     pub names: [usize; 8],
     pub places: [usize; 8],
-}
-
-// The byte at a place; the end of the text counts as a byte 0.
-fn byte_at(s: &[u8], i: usize) -> u8
-    ensures { λ r. ⌜ r ≡ getD (now (s .entry)) i 0 ⌝ }
-{
-    if i < s.len() { s[i] } else { 0 }
 }
 
 // How many bytes of a name or a value stand at a place, up to 33: 32 are allowed.

@@ -1,8 +1,6 @@
 // Key lists, addresses and legal versions. The definitions and their laws are in specs/.
 pub mod address;
 pub mod arrange;
-pub mod compare;
-pub mod doubles;
 pub mod keyed;
 pub mod label;
 pub mod load;

@@ -1,11 +1,11 @@
 // Key lists into tables: the whole notation first, then the rules, line by line over the table of the lines before.
-use crate::compare::same_bytes;
 use crate::notation::End;
 use crate::notation::Line;
 use crate::notation::in_notation;
 use crate::notation::is_among;
 use crate::notation::line_at;
 use crate::places::child;
+use xml::compare::same_bytes;
 use xml::scan::name_len;
 ghost use mathlib.Core.Path.{_≡_};
 ghost use mathlib.Core.List.{List};

@@ -1,5 +1,5 @@
 // The notation of key lists: a scanner over the bytes of a line. Each byte is looked at a bounded number of times.
-use crate::compare::same_bytes;
+use xml::compare::same_bytes;
 use xml::scan::name_len;
 use xml::scan::same;
 ghost use mathlib.Core.Path.{_≡_};

@@ -6,7 +6,18 @@ ghost use Prim.Native.Nat.{_^_, _<_, _≤_};
 ghost use lib.ListN.{length};
 ghost use Rattle.keys.specs.Labelled.{Labelled};
 ghost use Rattle.keys.specs.Checked.{Checked};
-ghost use Rattle.keys.specs.Entries.{AllEntries, RankOf, Inserted, Few, OrderIn};
+ghost use Rattle.keys.specs.Entries.{AllEntries, insertAt, RankOf, Few, OrderIn};
+
+// Which of the entries low to high to look at: the last of all k first, as siblings mostly arrive in order, then the one in the middle.
+fn probe(low: usize, high: usize, k: usize) -> usize
+    requires { ⌜ (low < high) × (high ≤ 512) ⌝ }
+    ensures { λ r. ⌜ (low ≤ r) × (r < high) ⌝ }
+{
+    if high == k {
+        return high - 1;
+    }
+    (low + high) / 2
+}
 
 // The place of the element p among the first k of `order`, which ascend: after the last with a label below its own; 513 where one has the same label.
 fn rank_of(
@@ -24,25 +35,28 @@ fn rank_of(
         × Labelled (now text) (now table) n place (now src) (now tape) p ⌝ }
     ensures { λ r. ⌜ RankOf (now (text .entry)) (now (table .entry)) n place (now (src .entry)) (now (tape .entry)) (now (order .entry)) k p r ⌝ }
 {
-    let mut j = k;
-    while 0 < j {
-        let q = order[j - 1] as usize;
+    let mut low = 0;
+    let mut high = k;
+    while low < high {
+        let mid = probe(low, high, k);
+        let q = order[mid] as usize;
         let o = compare_labels(text, table, n, place, src, tape, q, src, tape, p);
-        if o == 0 {
-            return j;
-        }
         if o == 1 {
             return 513;
         }
-        j -= 1;
+        if o == 0 {
+            low = mid + 1;
+        } else {
+            high = mid;
+        }
     }
-    0
+    low
 }
 
 // Puts p at j of the first k of `order`, and those from j on one further.
 fn insert(order: &mut [u32; 512], k: usize, j: usize, p: usize)
     requires { ⌜ (j ≤ k) × (k < 512) × (p < 2 ^ 32) × (length (now order) ≡ 512) ⌝ }
-    ensures { λ r. ⌜ Inserted (now (order .entry)) k j p (now (order .exit)) ⌝ }
+    ensures { λ r. ⌜ now (order .exit) ≡ insertAt k j p (now (order .entry)) ⌝ }
 {
     let mut i = k;
     while j < i {

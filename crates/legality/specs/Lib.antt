@@ -5,3 +5,5 @@ pub mod Layered
 pub mod SmallLaws
 pub mod Opened
 pub mod Seen
+pub mod Folded
+pub mod Left

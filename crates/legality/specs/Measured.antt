@@ -11,7 +11,7 @@ use Rattle.xml.specs.Bytes.{Bytes, bytes, same}
 use Rattle.xml.specs.Forest.{Forest, end, elem, text, stamp, join}
 use Rattle.xml.specs.Signs.{spelt}
 use Rattle.xml.specs.Tape.{headAt, nextAt, Tape, at-end, at-text, at-elem, at-stamp}
-use Rattle.xml.specs.TapeLaws.{bytesAt, tape-le, node-bytes, length-unescape, length-escape, inner-node, text-node}
+use Rattle.xml.specs.TapeLaws.{bytesAt, OneRun, tape-le, node-bytes, length-unescape, length-escape, inner-node, text-node}
 use Rattle.xml.specs.Truth.{clash}
 use Rattle.timestamp.specs.Times.{belongs}
 use Rattle.timestamp.specs.Listed.{belongs-listed}
@@ -153,6 +153,10 @@ module _ {src cells : List ℕ} {p left : ℕ} {w : Bool} {x y : List ℕ} where
   unfolding ownNodes ownBytes timedIn stops
   text-measured t l k e =
       rw (text-node t l k) (sums-measured refl (record { own-nodes = refl; own-bytes = omega arith; in-nodes = grown-none; in-bytes = grown-none }))
+
+  -- nodes that are one run of text
+  pub run-measured : {f : Forest} {q n : ℕ} → Tape src cells p q f → OneRun src cells p q → n ≡ length (spelt (bytesAt src cells p)) → Measured left w f (owned 1 n) x x y y
+  run-measured t o d = text-measured (rw (o .ends) at t) (o .node .forward) (o .run) d
 
   -- an element deeper than the walk may go
   pub deep-measured : {f : Forest} {r : Own} → Tape src cells p (nextAt cells p) f → p < nextAt cells p → headAt cells p % 4 ≡ 1 → left ≡ 0 → r .stopped ≡ true → Measured left w f r x x y y

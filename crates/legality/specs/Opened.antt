@@ -1,5 +1,5 @@
 -- An archive's text opened: read onto the tape and judged, or refused under 10; and a law for each answer.
-use Prim.Native.Nat.{ℕ, _≤_}
+use Prim.Native.Nat.{ℕ, _≤_, min}
 use native.Mathlib.Omega.{arith}
 use mathlib.Core.Path.{_≡_, refl, sym, _∙_, subst}
 use mathlib.Core.Bool.{Bool, true, false}
@@ -24,6 +24,10 @@ use Rattle.versions.specs.Walk.{forestLegal, archiveRead}
 use Rattle.versions.specs.LegalWhole.{wholeLast, whole-none, whole-some, legal-few, legal-named}
 use Rattle.legality.specs.declared.open.Opened.{Opened}
 use Rattle.legality.specs.declared.open.Opened.the-variants.{Done, Illegal}
+
+-- the cells serve to read the text: a cell a byte always does, and 16,384 cells do, whatever the length
+abbrev pub Roomy : Bytes → List ℕ → Type 0
+Roomy text cells = min (length text) 16384 ≤ length cells
 
 -- a legal archive lies on the tape
 pub record ArchiveOn (K : KeyList) (src cells : List ℕ) (hi n : ℕ) : Type 0 where
@@ -81,16 +85,16 @@ module _ (K : KeyList) (s : Bytes) where
     legal-read d l = rw (e, d, l)
 
   -- a legal archive fits into the work cells
-  full-read : (cells : List ℕ) → Overfull true s cells → 16384 ≤ length cells → length s ≤ 32768 → archiveRead K s ≡ refused r10
+  full-read : (cells : List ℕ) → Overfull true s cells → Roomy s cells → length s ≤ 32768 → archiveRead K s ≡ refused r10
   full-read cells o c l = at (read true s) refl
     where
       at : (x : Outcome) → read true s ≡ x → archiveRead K s ≡ refused r10
       at (broken p) e = broken-read e
       at (whole f) e =
-          illegal-read f e (not-so (forestLegal K f) (λ h. omega (arith, full-archive s cells f o (omega arith) l e (legal-named K f h), legal-few K f h)))
+          illegal-read f e (not-so (forestLegal K f) (λ h. omega (arith, full-archive s cells f o (omega (arith, o .0)) l e (legal-named K f h), legal-few K f h)))
 
 -- the reader's answer that the tape is too short
-pub opened-full : (src before cells : List ℕ) {r : Reply} → r ≡ Full → Replied true src before cells r → 16384 ≤ length cells → length src ≤ 32768
+pub opened-full : (src before cells : List ℕ) {r : Reply} → r ≡ Full → Replied true src before cells r → Roomy src cells → length src ≤ 32768
     → (K : KeyList) → archiveRead K src ≡ refused r10
 opened-full src before cells e x c l K = full-read K src cells (subst (Replied true src before cells) e x) c l
 

@@ -1,26 +1,29 @@
 // What a frontier holds: one content, or two or more that share its versions.
 use crate::mark::mark;
-use crate::times::times_at;
+use crate::times::scan_at;
 use timestamp::Timestamp;
+use timestamp::first_in;
+use timestamp::is_none;
+use timestamp::take;
 use xml::compare::same_bytes;
 use xml::compare::same_nodes;
 use xml::tape::view_at;
 ghost use mathlib.Core.Path.{_≡_};
 ghost use mathlib.Core.Bool.{not, _&&_};
-ghost use Prim.Native.Nat.{ℕ, _≤_};
+ghost use Prim.Native.Nat.{_%_, _≤_};
 ghost use lib.ListN.{length};
 ghost use lib.Seq.{slice};
 ghost use Rattle.xml.specs.Forest.{Forest, end, sameForest};
 ghost use Rattle.xml.specs.Tape.{Tape, Valid};
 ghost use Rattle.keys.specs.Legal.{untimed};
 ghost use Rattle.timestamp.specs.Times.{Times};
-ghost use Rattle.timestamp.specs.Set.{setOf, none, upTo};
+ghost use Rattle.timestamp.specs.Set.{setOf, none, adding};
 ghost use Rattle.timestamp.specs.Listed.{listed, Only};
 ghost use Rattle.versions.specs.Walk.{frontLegal};
 ghost use Rattle.versions.specs.Untimed.{timedNode};
-ghost use Rattle.versions.specs.Branches.{repeats, follows, judged};
+ghost use Rattle.versions.specs.Branches.{repeats, judged};
 ghost use Rattle.versions.specs.Marks.{MarkOf, Notes};
-ghost use Rattle.legality.specs.Seen.{isSeen, SeenToo, Seen};
+ghost use Rattle.legality.specs.Seen.{isSeen, Seen};
 
 // A node of this kind, named by src[a..e], is a `T` or an element with that name.
 pub fn is_timed(src: &[u8], kind: u32, a: usize, e: usize) -> bool
@@ -114,7 +117,7 @@ fn is_marked(seen: &[u64; 256], m: u16) -> bool
 // Sets the bit of the mark m in the table.
 fn set_mark(seen: &mut [u64; 256], m: u16)
     requires { ⌜ length (now seen) ≡ 256 ⌝ }
-    ensures { λ r. ⌜ SeenToo (now (seen .entry)) m (now (seen .exit)) ⌝ }
+    ensures { λ r. ⌜ (setOf (now (seen .exit)) ≡ adding (m % 16384) (setOf (now (seen .entry)))) × (length (now (seen .exit)) ≡ 256) ⌝ }
 {
     let v = (m % 16384) as usize;
     let k = v / 64;
@@ -147,20 +150,7 @@ fn content_legal(
     !is_repeated(src, tape, lo, hi, a, e, marks, m)
 }
 
-// The set is within `all`, has none of the union of those before it, and begins after `first`.
-fn may_follow(set: Timestamp, all: Timestamp, union: Timestamp, first: usize) -> bool
-    ensures { λ r. ⌜ ((n : ℕ) → setOf (all .words) ≡ upTo n → r ≡ follows n (setOf (union .words)) first (setOf (set .words))) ⌝ }
-{
-    if !set.within(all) {
-        return false;
-    }
-    if !set.disjoint(union) {
-        return false;
-    }
-    first < set.first()
-}
-
-// The nodes lo to hi are two or more contents, each in a `T`, that share the versions `times`.
+// The nodes lo to hi are two or more contents, each in a `T`, that share the versions `times`: each takes its own from those that are left.
 fn branches_legal(
     src: &[u8],
     tape: &[u32],
@@ -169,13 +159,13 @@ fn branches_legal(
     n: usize,
     times: Timestamp,
 ) -> bool
-    requires { ⌜ Valid (now src) (now tape) lo hi × (n ≤ 999) ⌝ }
-    ensures { λ r. ⌜ ((f : Forest) → Tape (now (src .entry)) (now (tape .entry)) lo hi f → r ≡ judged n (setOf (times .words)) none 0 0 end f) ⌝ }
+    requires { ⌜ Valid (now src) (now tape) lo hi ⌝ }
+    ensures { λ r. ⌜ ((f : Forest) → Tape (now (src .entry)) (now (tape .entry)) lo hi f → Only n (setOf (times .words))
+        → r ≡ judged n (setOf (times .words)) none 0 0 end f) ⌝ }
 {
-    let all = Timestamp::up_to(n);
+    let mut left = times.words;
     let mut p = lo;
     let mut count = 0usize;
-    let mut union = Timestamp::empty();
     let mut first = 0usize;
     let mut marks = [0u16; 1000];
     let mut seen = [0u64; 256];
@@ -184,11 +174,15 @@ fn branches_legal(
         if v.kind != 2 {
             return false;
         }
-        let b = times_at(src, v.start, v.end);
+        let b = scan_at(src, v.start, v.end);
         if !b.ok {
             return false;
         }
-        if !may_follow(b.stamp, all, union, first) {
+        let start = first_in(&b.stamp.words, 0);
+        if start <= first {
+            return false;
+        }
+        if !take(&mut left, &b.stamp.words, start, b.end) {
             return false;
         }
         let m = mark(src, tape, p + 1, v.next) as u16;
@@ -197,15 +191,14 @@ fn branches_legal(
         }
         marks[count] = m;
         set_mark(&mut seen, m);
-        union = union.union(b.stamp);
-        first = b.stamp.first();
+        first = start;
         count += 1;
         p = v.next;
     }
     if count < 2 {
         return false;
     }
-    union.same(times)
+    is_none(&left)
 }
 
 // What a frontier that stands in the versions `times` holds.

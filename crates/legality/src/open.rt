@@ -22,7 +22,7 @@ ghost use Rattle.versions.specs.Untimed.{timedNode};
 ghost use Rattle.versions.specs.NodeCount.{weight as counted};
 ghost use Rattle.versions.specs.OuterTimes.{outerLast};
 ghost use Rattle.versions.specs.LegalWhole.{outerOf, insideLegal};
-ghost use Rattle.legality.specs.Opened.{ReadOn, Judged, Opens};
+ghost use Rattle.legality.specs.Opened.{ReadOn, Judged, Opens, Roomy};
 
 // The nodes of a legal archive, and its last version's number; or the text is none (10).
 pub enum Opened {
@@ -158,7 +158,7 @@ fn judge(text: &[u8], table: &[u32], paths: usize, src: &[u8], tape: &[u32], hi:
 
 // Reads an archive's text onto the work cells, and judges it.
 pub fn open(text: &[u8], table: &[u32], paths: usize, src: &[u8], work: &mut [u32]) -> Opened
-    requires { ⌜ Tabled (now text) (now table) paths × (length (now src) ≤ 32768) × (16384 ≤ length (now work)) ⌝ }
+    requires { ⌜ Tabled (now text) (now table) paths × (length (now src) ≤ 32768) × Roomy (now src) (now work) ⌝ }
     ensures { λ r. ⌜ Opens (now (text .entry)) (now (table .entry)) paths (now (src .entry)) (now (work .exit)) r ⌝ }
 {
     match read(src, true, work) {

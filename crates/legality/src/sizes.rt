@@ -1,15 +1,17 @@
 // The sizes of every version in one walk: what a `T` holds itself, other `T`s apart, counts for each of its versions.
 use xml::compare::same_bytes;
 use xml::compare::text_len;
+use xml::tape::is_run;
 use xml::tape::view_at;
+use xml::text::plain_end;
 ghost use mathlib.Core.Path.{_≡_};
 ghost use mathlib.Core.Bool.{true};
-ghost use Prim.Native.Nat.{_+_, _<_, _≤_};
+ghost use Prim.Native.Nat.{_+_, _%_, _<_, _≤_};
 ghost use lib.ListN.{length};
 ghost use lib.Seq.{slice};
 ghost use Rattle.xml.specs.Bytes.{all};
 ghost use Rattle.xml.specs.Forest.{Forest};
-ghost use Rattle.xml.specs.Tape.{nextAt, Tape};
+ghost use Rattle.xml.specs.Tape.{headAt, nextAt, Tape};
 ghost use Rattle.timestamp.specs.Times.{upFrom};
 ghost use Rattle.timestamp.specs.Parse.{numbersIn};
 ghost use Rattle.timestamp.specs.Reading.{startAt};
@@ -115,7 +117,32 @@ fn one(src: &[u8], a: usize, e: usize) -> u32
     1
 }
 
-// The node p, which stands straight in a `T` where `timed`: where it is a `T`, what it holds itself is added to the cells of its versions.
+// The nodes lo to hi, which a node holds: one run of text that is written as it stands is measured with no walk.
+fn add_inside(
+    src: &[u8],
+    tape: &[u32],
+    lo: usize,
+    hi: usize,
+    left: usize,
+    timed: bool,
+    nodes: &mut [u32],
+    bytes: &mut [u32],
+) -> Own
+    requires { ⌜ Room (now src) (now tape) lo hi (now nodes) (now bytes) ⌝ }
+    ensures { λ r. ⌜ ((f : Forest) → Tape (now (src .entry)) (now (tape .entry)) lo hi f
+        → Measured left timed f r (now (nodes .entry)) (now (nodes .exit)) (now (bytes .entry)) (now (bytes .exit))) ⌝ }
+{
+    if is_run(tape, lo, hi) {
+        let v = view_at(tape, lo);
+        if plain_end(src, v.start, v.end) == v.end {
+            return sized(1, (v.end - v.start) as u32);
+        }
+    }
+    add_sizes(src, tape, lo, hi, left, timed, nodes, bytes)
+}
+
+// The element or `T` p, which stands straight in a `T` where `timed`: where it is a `T`, what it holds itself is added to the cells of its
+// versions.
 fn add_node(
     src: &[u8],
     tape: &[u32],
@@ -125,20 +152,16 @@ fn add_node(
     nodes: &mut [u32],
     bytes: &mut [u32],
 ) -> Own
-    requires { ⌜ (p < nextAt (now tape) p) × Room (now src) (now tape) p (nextAt (now tape) p) (now nodes) (now bytes) ⌝ }
+    requires { ⌜ (p < nextAt (now tape) p) × (headAt (now tape) p % 4 ≡ 0 → ⊥) × Room (now src) (now tape) p (nextAt (now tape) p) (now nodes) (now bytes) ⌝ }
     ensures { λ r. ⌜ ((f : Forest) → Tape (now (src .entry)) (now (tape .entry)) p (nextAt (now (tape .entry)) p) f
         → Measured left timed f r (now (nodes .entry)) (now (nodes .exit)) (now (bytes .entry)) (now (bytes .exit))) ⌝ }
 {
     let v = view_at(tape, p);
-    if v.kind == 0 {
-        let b = text_len(src, v.start, v.end);
-        return sized(1, b as u32);
-    }
     if v.kind == 1 {
         if left == 0 {
             return halted();
         }
-        let k = add_sizes(src, tape, p + 1, v.next, left - 1, false, nodes, bytes);
+        let k = add_inside(src, tape, p + 1, v.next, left - 1, false, nodes, bytes);
         if k.stopped {
             return k;
         }
@@ -148,7 +171,7 @@ fn add_node(
     if timed {
         return halted();
     }
-    let k = add_sizes(src, tape, p + 1, v.next, left, true, nodes, bytes);
+    let k = add_inside(src, tape, p + 1, v.next, left, true, nodes, bytes);
     if k.stopped {
         return k;
     }
@@ -175,13 +198,19 @@ pub fn add_sizes(
     let mut n = 0u32;
     let mut b = 0u32;
     while p < hi {
+        let v = view_at(tape, p);
+        if v.kind == 0 {
+            b += text_len(src, v.start, v.end) as u32;
+            n += 1;
+            p = v.next;
+            continue;
+        }
         let o = add_node(src, tape, p, left, timed, nodes, bytes);
         if o.stopped {
             return o;
         }
         n += o.nodes;
         b += o.bytes;
-        let v = view_at(tape, p);
         p = v.next;
     }
     sized(n, b)

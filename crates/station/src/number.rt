@@ -1,5 +1,6 @@
 // A version's number, as a word of decimal digits.
-ghost use Prim.Native.Nat.{_+_, _*_, _≤_, min};
+use xml::writer::least;
+ghost use Prim.Native.Nat.{_+_, _*_, _≤_};
 ghost use mathlib.Core.Path.{_≡_};
 ghost use Rattle.station.specs.Number.{digitOf, numberOf};
 
@@ -20,13 +21,6 @@ fn digit(b: u8) -> usize
         return 10;
     }
     (b - 48) as usize
-}
-
-// The lesser of two numbers.
-fn least(a: usize, b: usize) -> usize
-    ensures { λ r. ⌜ r ≡ min a b ⌝ }
-{
-    if a < b { a } else { b }
 }
 
 // The number that a word is.

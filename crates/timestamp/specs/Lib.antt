@@ -5,6 +5,7 @@ pub mod Set
 pub mod Words
 pub mod Tests
 pub mod First
+pub mod Taken
 pub mod Runs
 pub mod Listed
 pub mod Belongs
@@ -13,6 +14,7 @@ pub mod Parse
 pub mod Reading
 pub mod Accepts
 pub mod Sound
+pub mod Ends
 pub mod Numbers
 pub mod Parses
 pub mod Write

@@ -13,7 +13,7 @@ use Rattle.xml.specs.Bytes.{Bytes, bytes}
 use Rattle.xml.specs.Truth.{clash, not-so, and-left, and-right, and-both}
 use Rattle.timestamp.specs.Times.{Times, sameTimes, onlyAfter, always, upFrom, decimal, writeRun, writeTimes, belongs, times-compute}
 use Rattle.timestamp.specs.TimesLaws.{times-is, times-self, bool-eq, or-by, same-or, belongs-times, write-lacks, write-none, write-always}
-use Rattle.timestamp.specs.Set.{none, upTo, adding, between, cutAt, joined, shared, sameSet}
+use Rattle.timestamp.specs.Set.{none, upTo, adding, between, cutAt, joined, sameSet}
 use Rattle.timestamp.specs.Tests.{same-tells, same-told}
 use Rattle.timestamp.specs.Runs.{length-from, getD-from, from-cong, from-snoc, from-take, from-always}
 
@@ -107,9 +107,6 @@ only-cut n i s o v e = (o v (and-left (s v) (leb v i) e) .0, leb-true v i (and-r
 
 pub only-joined : (n : ℕ) (s t : ℕ → Bool) → Only n s → Only n t → Only n (joined s t)
 only-joined n s t o o′ v e = or-by (s v) (t v) e (λ x. o v x) (λ x. o′ v x)
-
-pub only-shared : (n : ℕ) (s t : ℕ → Bool) → Only n s → Only n (shared s t)
-only-shared n s t o v e = o v (and-left (s v) (t v) e)
 
 pub only-between : (lo hi : ℕ) → 1 ≤ lo → Only hi (between lo hi)
 only-between lo hi l v e = (le-trans l (leb-true lo v (and-left (leb lo v) (leb v hi) e)), leb-true v hi (and-right (leb lo v) (leb v hi) e))

@@ -12,9 +12,10 @@ use Rattle.xml.specs.BytesLaws.{same-is, same-self}
 use Rattle.xml.specs.Truth.{clash, not-so, and-left, and-right, and-both, or-first}
 use Rattle.timestamp.specs.Times.{runs, writeTimes, belongs, times-compute}
 use Rattle.timestamp.specs.TimesLaws.{inRun, in-run, runs-are}
-use Rattle.timestamp.specs.Set.{upTo}
+use Rattle.timestamp.specs.Set.{none, upTo, firstIn}
+use Rattle.timestamp.specs.First.{first-before}
 use Rattle.timestamp.specs.Runs.{Asc, inRuns, rest, asc-runs, below-runs, above-runs, runs-back}
-use Rattle.timestamp.specs.Listed.{listed, textOf, Only, listed-length, listed-at, only-zero, only-past, only-up-to, belongs-listed}
+use Rattle.timestamp.specs.Listed.{listed, textOf, Only, listed-length, listed-at, only-zero, only-past, only-up-to, belongs-listed, text-none}
 use Rattle.timestamp.specs.Digits.{text, text-joined}
 use Rattle.timestamp.specs.Parse.{Outcome, refused, accepted, numbersIn, parsed, pickOutcome}
 use Rattle.timestamp.specs.Reading.{readIn}
@@ -122,6 +123,17 @@ parse-text s v o e = sym (read-parsed (textOf s)) ∙ accepted-text s o (text-so
 -- what is read as a set is its text, the set has no numbers but 1 to 999, and it is not empty
 pub text-parse : (l : Bytes) (s : ℕ → Bool) → parsed l ≡ accepted s → (l ≡ textOf s) × Only 999 s × (l ≡ [] → ⊥)
 text-parse l s e = text-accepted l s (read-parsed l ∙ e)
+
+-- so its least number is one of these
+pub text-first : (l : Bytes) (s : ℕ → Bool) → parsed l ≡ accepted s → firstIn 1024 s 0 ≤ 999
+text-first l s e = go (decLe (firstIn 1024 s 0) 999)
+  where
+    empty : 999 < firstIn 1024 s 0 → s ≡ none
+    empty h = fun-ext (λ v. not-so (s v) (λ q. clash (sym q ∙ first-before s 1024 0 v (omega arith) (omega (arith, text-parse l s e .1 v q)))))
+
+    go : Dec (firstIn 1024 s 0 ≤ 999) → firstIn 1024 s 0 ≤ 999
+    go (yes h) = h
+    go (no h) = absurd (text-parse l s e .2 (text-parse l s e .0 ∙ ap textOf (empty (omega arith)) ∙ text-none))
 
 -- what the code's answer tells
 pub outcome-ok : (b : Bool) (s : ℕ → Bool) (l : Bytes) → pickOutcome b s ≡ parsed l → b ≡ true → parsed l ≡ accepted s

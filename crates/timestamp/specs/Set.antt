@@ -33,6 +33,10 @@ joined s t v = s v || t v
 abbrev pub shared : (ℕ → Bool) → (ℕ → Bool) → ℕ → Bool
 shared s t v = s v && t v
 
+-- the numbers of s that t lacks
+abbrev pub without : (ℕ → Bool) → (ℕ → Bool) → ℕ → Bool
+without s t v = s v && not (t v)
+
 -- the numbers that words can hold and s lacks
 abbrev pub outside : (ℕ → Bool) → ℕ → Bool
 outside s v = ltb v 1024 && not (s v)

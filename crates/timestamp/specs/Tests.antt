@@ -9,7 +9,7 @@ use lib.Bits.{and-lt}
 use lib.ListN.{length, getD}
 use Rattle.xml.specs.Truth.{clash, not-so, and-left, and-right, and-both}
 use Rattle.timestamp.specs.TimesLaws.{beq-is, beq-self}
-use Rattle.timestamp.specs.Bits.{bit, bit-and, bit-none, bits-ext}
+use Rattle.timestamp.specs.Bits.{bit, bit-and, bits-ext}
 use Rattle.timestamp.specs.Set.{setOf, none, every, sameSet, shared, apart, subset}
 use Rattle.timestamp.specs.Words.{andAt, past}
 
@@ -66,14 +66,18 @@ module _ (f g : ℕ → ℕ) (s t : ℕ → Bool)
   agree : ((k : ℕ) → k < 16 → f k ≡ g k) → sameSet s t ≡ true
   agree h = same-told s t (λ v l. sym (hs v) ∙ ap (λ (x : ℕ). bit x (v % 64)) (h (v / 64) (omega arith)) ∙ ht v)
 
-  differ : (k : ℕ) → k < 16 → f k < 2 ^ 64 → g k < 2 ^ 64 → (f k ≡ g k → ⊥) → sameSet s t ≡ false
-  differ k hk hf hg ne = not-so (sameSet s t) (λ e. ne (bits-ext 64 (f k) (g k) hf hg (λ j l. at e j l)))
+  -- sets that agree have words that agree
+  pub told-words : sameSet s t ≡ true → (k : ℕ) → k < 16 → f k < 2 ^ 64 → g k < 2 ^ 64 → f k ≡ g k
+  told-words e k hk hf hg = bits-ext 64 (f k) (g k) hf hg at
     where
-      at : sameSet s t ≡ true → (j : ℕ) → j < 64 → bit (f k) j ≡ bit (g k) j
-      at e j l =
+      at : (j : ℕ) → j < 64 → bit (f k) j ≡ bit (g k) j
+      at j l =
           let d : (k * 64 + j) / 64 ≡ k = omega arith in
           let m : (k * 64 + j) % 64 ≡ j = omega arith in
           rw (d, m) at (hs (k * 64 + j) ∙ same-tells s t e (k * 64 + j) (omega arith) ∙ sym (ht (k * 64 + j)))
+
+  differ : (k : ℕ) → k < 16 → f k < 2 ^ 64 → g k < 2 ^ 64 → (f k ≡ g k → ⊥) → sameSet s t ≡ false
+  differ k hk hf hg ne = not-so (sameSet s t) (λ e. ne (told-words e k hk hf hg))
 
 module _ (a b : List ℕ) where
   pub same-words : ((k : ℕ) → k < 16 → getD a k 0 ≡ getD b k 0) → sameSet (setOf a) (setOf b) ≡ true
@@ -84,15 +88,6 @@ module _ (a b : List ℕ) where
       → (getD a k 0 ≡ getD b k 0 → ⊥) → sameSet (setOf a) (setOf b) ≡ false
   unfolding setOf
   other-words k = differ (λ k. getD a k 0) (λ k. getD b k 0) (setOf a) (setOf b) (λ v. refl) (λ v. refl) k
-
-  pub apart-words : ((k : ℕ) → k < 16 → andAt a b k ≡ 0) → apart (setOf a) (setOf b) ≡ true
-  unfolding setOf
-  apart-words h = agree (andAt a b) (λ k. 0) _ _ (λ v. bit-and _ _ _) (λ v. bit-none _) h
-
-  pub meeting-words : (k : ℕ) → k < 16 → getD a k 0 < 2 ^ 64 → getD b k 0 < 2 ^ 64
-      → (andAt a b k ≡ 0 → ⊥) → apart (setOf a) (setOf b) ≡ false
-  unfolding setOf
-  meeting-words k hk ha hb ne = differ (andAt a b) (λ k. 0) _ _ (λ v. bit-and _ _ _) (λ v. bit-none _) k hk (and-lt 64 (getD a k 0) (getD b k 0) ha hb) (omega arith) ne
 
   pub subset-words : ((k : ℕ) → k < 16 → andAt a b k ≡ getD a k 0) → subset (setOf a) (setOf b) ≡ true
   unfolding setOf

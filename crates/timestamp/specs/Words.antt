@@ -14,7 +14,7 @@ use lib.ListN.{length, getD, set, length-set, replicate, getD-replicate, List·g
 use lib.Seq.{getD-set-same, getD-set-other}
 use borrow.Author.Tests.{lt-ltb, le-ltb, le-leb, lt-leb, eq-eqb, ne-eqb}
 use Rattle.timestamp.specs.Bits.{bit, bit-and, bit-or, bit-xor, bit-none, bit-pow, bit-ones}
-use Rattle.timestamp.specs.Set.{setOf, none, adding, joined, shared, between, cutAt, outside}
+use Rattle.timestamp.specs.Set.{setOf, none, adding, joined, between, cutAt, outside}
 
 -- ---- a loop that fills sixteen words
 -- the first i of them are f's
@@ -49,9 +49,6 @@ filled-set f i w s p l h z = fun-ext (λ v. go v (decLt (v / 64) 16))
     go v (no q) = past w (p .size) v (omega arith) ∙ sym (z v (omega arith))
 
 -- ---- what the loops fill
-abbrev pub orAt : List ℕ → List ℕ → ℕ → ℕ
-orAt a b k = bitOr (getD a k 0) (getD b k 0)
-
 abbrev pub andAt : List ℕ → List ℕ → ℕ → ℕ
 andAt a b k = bitAnd (getD a k 0) (getD b k 0)
 
@@ -80,18 +77,6 @@ unfolding xor
 xor-ones true = refl
 xor-ones false = refl
 
-pub union-set : (a b w : List ℕ) (i : ℕ) → length a ≡ 16 → length b ≡ 16 → Filled (orAt a b) i w → 16 ≤ i
-    → setOf w ≡ joined (setOf a) (setOf b)
-unfolding setOf
-union-set a b w i la lb p l =
-    filled-set (orAt a b) i w _ p l (λ v q. bit-or _ _ _) (λ v q. ap₂ _||_ (past a la v q) (past b lb v q))
-
-pub meet-set : (a b w : List ℕ) (i : ℕ) → length a ≡ 16 → length b ≡ 16 → Filled (andAt a b) i w → 16 ≤ i
-    → setOf w ≡ shared (setOf a) (setOf b)
-unfolding setOf
-meet-set a b w i la lb p l =
-    filled-set (andAt a b) i w _ p l (λ v q. bit-and _ _ _) (λ v q. ap₂ _&&_ (past a la v q) (past b lb v q))
-
 -- the bits of the words' complement
 pub not-bit : (a : List ℕ) (v : ℕ) → v / 64 < 16 → bit (notAt a (v / 64)) (v % 64) ≡ outside (setOf a) v
 unfolding setOf
@@ -117,10 +102,11 @@ range-bit lo hi v le = bit-xor _ _ _ ∙ ap₂ xor (mask-bit (hi + 1) v ∙ ltb-
     go (yes q) = rw (lt-ltb v lo q, lt-leb lo v q, le-leb v hi (omega arith))
     go (no q) = rw (le-ltb v lo (omega arith), le-leb lo v (omega arith)) (not-self (leb v hi))
 
-pub with-set : (a : List ℕ) (v : ℕ) → length a ≡ 16 → v < 1024
+-- one number put into words that have a place for it
+pub with-set : (a : List ℕ) (v : ℕ) → v / 64 < length a
     → setOf (set a (v / 64) (bitOr ((1 * 2 ^ (v % 64)) % 2 ^ 64) (getD a (v / 64) 0))) ≡ adding v (setOf a)
 unfolding setOf
-with-set a v la h = fun-ext (λ u. go u (ℕ-discrete (u / 64) (v / 64)))
+with-set a v h = fun-ext (λ u. go u (ℕ-discrete (u / 64) (v / 64)))
   where
     word : ℕ
     word = bitOr ((1 * 2 ^ (v % 64)) % 2 ^ 64) (getD a (v / 64) 0)
@@ -134,7 +120,7 @@ with-set a v la h = fun-ext (λ u. go u (ℕ-discrete (u / 64) (v / 64)))
 
     go : (u : ℕ) → Dec (u / 64 ≡ v / 64) → bit (getD (set a (v / 64) word) (u / 64) 0) (u % 64) ≡ (eqb u v || bit (getD a (u / 64) 0) (u % 64))
     go u (yes e) =
-        ap (λ (x : ℕ). bit x (u % 64)) (ap (λ (n : ℕ). getD (set a (v / 64) word) n 0) e ∙ getD-set-same a (v / 64) word 0 (omega arith))
+        ap (λ (x : ℕ). bit x (u % 64)) (ap (λ (n : ℕ). getD (set a (v / 64) word) n 0) e ∙ getD-set-same a (v / 64) word 0 h)
         ∙ bit-or ((1 * 2 ^ (v % 64)) % 2 ^ 64) (getD a (v / 64) 0) (u % 64)
         ∙ ap₂ _||_ (ap (λ (x : ℕ). bit x (u % 64)) pow-is ∙ bit-pow (v % 64) (u % 64) ∙ here u e (ℕ-discrete u v))
         (ap (λ (n : ℕ). bit (getD a n 0) (u % 64)) (sym e))

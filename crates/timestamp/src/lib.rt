@@ -3,11 +3,14 @@ pub mod text;
 pub mod write;
 
 ghost use mathlib.Core.Path.{_≡_};
+ghost use mathlib.Core.Bool.{true};
 ghost use Prim.Native.Nat.{_+_, _-_, _*_, _/_, _^_, _<_, _≤_, min};
 ghost use lib.ListN.{length};
+ghost use lib.Bits.{bitAnd};
 ghost use lib.Count.{trailingZeros};
 ghost use Rattle.timestamp.specs.Words.{Stored};
-ghost use Rattle.timestamp.specs.Set.{setOf, none, upTo, between, adding, cutAt, joined, shared, outside, sameSet, isNone, apart, subset, firstIn};
+ghost use Rattle.timestamp.specs.Taken.{Ranges};
+ghost use Rattle.timestamp.specs.Set.{setOf, none, upTo, between, adding, cutAt, joined, without, outside, sameSet, isNone, subset, firstIn};
 
 pub struct Timestamp {
     pub words: [u64; 16],
@@ -37,6 +40,13 @@ fn rest(w: u64, j: usize) -> u64
     ensures { λ r. ⌜ (r ≡ w / 2 ^ j) × (r < 2 ^ (64 - j)) ⌝ }
 {
     w >> j
+}
+
+// The bits that two words share.
+fn common(x: u64, w: u64) -> u64
+    ensures { λ r. ⌜ (r ≡ bitAnd x w) × (w < 2 ^ 64) ⌝ }
+{
+    x & w
 }
 
 // The number v put into the words of a set.
@@ -98,7 +108,7 @@ fn fill(words: &mut [u64; 16], lo: usize, hi: usize)
 }
 
 // The least member in the words from k on, or 1024 where there is none.
-fn first_in(words: &[u64; 16], k: usize) -> usize
+pub fn first_in(words: &[u64; 16], k: usize) -> usize
     requires { ⌜ (k ≤ 16) × (length (now words) ≡ 16) ⌝ }
     ensures { λ r. ⌜ r ≡ firstIn (1024 - k * 64) (setOf (now (words .entry))) (k * 64) ⌝ }
 {
@@ -130,7 +140,7 @@ fn first_gap(words: &[u64; 16], k: usize) -> usize
 }
 
 // The least member from v on of the set that the words hold, or 1024 where there is none.
-pub fn next_in(words: &[u64; 16], v: usize) -> usize
+fn next_in(words: &[u64; 16], v: usize) -> usize
     requires { ⌜ (v < 1024) × (length (now words) ≡ 16) ⌝ }
     ensures { λ r. ⌜ r ≡ firstIn (1024 - v) (setOf (now (words .entry))) v ⌝ }
 {
@@ -144,7 +154,7 @@ pub fn next_in(words: &[u64; 16], v: usize) -> usize
 }
 
 // The least number from v on that the words' set lacks, or 1024 where it lacks none.
-pub fn gap_in(words: &[u64; 16], v: usize) -> usize
+fn gap_in(words: &[u64; 16], v: usize) -> usize
     requires { ⌜ (v < 1024) × (length (now words) ≡ 16) ⌝ }
     ensures { λ r. ⌜ r ≡ firstIn (1024 - v) (outside (setOf (now (words .entry)))) v ⌝ }
 {
@@ -155,6 +165,49 @@ pub fn gap_in(words: &[u64; 16], v: usize) -> usize
     } else {
         v + lowest(w)
     }
+}
+
+// The words' set cut at i; whether that leaves it as it was. Words with no number above i are not touched.
+pub fn cut_words(words: &mut [u64; 16], i: usize) -> bool
+    requires { ⌜ (i < 1023) × (length (now words) ≡ 16) ⌝ }
+    ensures { λ r. ⌜ (setOf (now (words .exit)) ≡ cutAt i (setOf (now (words .entry)))) × (r ≡ sameSet (setOf (now (words .exit))) (setOf (now (words .entry)))) × (length (now (words .exit)) ≡ 16) ⌝ }
+{
+    if next_in(words, i + 1) == 1024 {
+        return true;
+    }
+    let k = i / 64;
+    words[k] = words[k] & low(i % 64 + 1);
+    store(words, k + 1, 16, 0);
+    false
+}
+
+// Whether the words hold no number.
+pub fn is_none(words: &[u64; 16]) -> bool
+    requires { ⌜ length (now words) ≡ 16 ⌝ }
+    ensures { λ r. ⌜ r ≡ isNone (setOf (now (words .entry))) ⌝ }
+{
+    first_in(words, 0) == 1024
+}
+
+// Takes the members of `set`, which are numbers from lo to before hi, out of `left`; false where `left` lacks one of them, and then it is of no use.
+// Only the words that can have some of them are touched.
+pub fn take(left: &mut [u64; 16], set: &[u64; 16], lo: usize, hi: usize) -> bool
+    requires { ⌜ (length (now left) ≡ 16) × (length (now set) ≡ 16) × (hi ≤ 1024) × Ranges lo hi (setOf (now set)) ⌝ }
+    ensures { λ r. ⌜ (r ≡ subset (setOf (now (set .entry))) (setOf (now (left .entry))))
+        × (r ≡ true → setOf (now (left .exit)) ≡ without (setOf (now (left .entry))) (setOf (now (set .entry))))
+        × (length (now (left .exit)) ≡ 16) ⌝ }
+{
+    let mut lack = 0u64;
+    let mut k = lo / 64;
+    let to = (hi + 63) / 64;
+    while k < to {
+        let w = set[k];
+        let x = left[k] ^ w;
+        lack = lack | common(x, w);
+        left[k] = x;
+        k += 1;
+    }
+    lack == 0
 }
 
 impl Timestamp {
@@ -185,13 +238,6 @@ impl Timestamp {
         Timestamp::range(1, n)
     }
 
-    pub fn has(self, v: usize) -> bool
-        requires { ⌜ v < 1024 ⌝ }
-        ensures { λ r. ⌜ r ≡ setOf (self .words) v ⌝ }
-    {
-        (self.words[v / 64] >> (v % 64)) % 2 == 1
-    }
-
     pub fn with(mut self, v: usize) -> Self
         requires { ⌜ v < 1024 ⌝ }
         ensures { λ r. ⌜ setOf (r .words) ≡ adding v (setOf (self .words)) ⌝ }
@@ -199,38 +245,6 @@ impl Timestamp {
         let k = v / 64;
         self.words[k] = (1u64 << (v % 64)) | self.words[k];
         self
-    }
-
-    // The numbers up to i.
-    pub fn cut(self, i: usize) -> Self
-        requires { ⌜ i < 1024 ⌝ }
-        ensures { λ r. ⌜ setOf (r .words) ≡ cutAt i (setOf (self .words)) ⌝ }
-    {
-        let mut w = self.words;
-        let k = i / 64;
-        w[k] = w[k] & low(i % 64 + 1);
-        store(&mut w, k + 1, 16, 0);
-        Timestamp { words: w }
-    }
-
-    pub fn union(self, other: Timestamp) -> Self
-        ensures { λ r. ⌜ setOf (r .words) ≡ joined (setOf (self .words)) (setOf (other .words)) ⌝ }
-    {
-        let mut w = [0u64; 16];
-        for k in 0..16 {
-            w[k] = self.words[k] | other.words[k];
-        }
-        Timestamp { words: w }
-    }
-
-    pub fn meet(self, other: Timestamp) -> Self
-        ensures { λ r. ⌜ setOf (r .words) ≡ shared (setOf (self .words)) (setOf (other .words)) ⌝ }
-    {
-        let mut w = [0u64; 16];
-        for k in 0..16 {
-            w[k] = self.words[k] & other.words[k];
-        }
-        Timestamp { words: w }
     }
 
     // The numbers below 1024 that are not in the set.
@@ -258,19 +272,8 @@ impl Timestamp {
     pub fn is_empty(self) -> bool
         ensures { λ r. ⌜ r ≡ isNone (setOf (self .words)) ⌝ }
     {
-        self.same(Timestamp::empty())
-    }
-
-    // No number is in both.
-    pub fn disjoint(self, other: Timestamp) -> bool
-        ensures { λ r. ⌜ r ≡ apart (setOf (self .words)) (setOf (other .words)) ⌝ }
-    {
-        for k in 0..16 {
-            if self.words[k] & other.words[k] != 0 {
-                return false;
-            }
-        }
-        true
+        let words = self.words;
+        is_none(&words)
     }
 
     // Every number is one of the other's.
@@ -292,13 +295,5 @@ impl Timestamp {
     {
         let words = self.words;
         next_in(&words, v)
-    }
-
-    // The least member, or 1024 where there is none.
-    pub fn first(self) -> usize
-        ensures { λ r. ⌜ r ≡ firstIn 1024 (setOf (self .words)) 0 ⌝ }
-    {
-        let words = self.words;
-        first_in(&words, 0)
     }
 }

@@ -8,8 +8,9 @@ ghost use lib.ListN.{getD, length};
 ghost use Rattle.timestamp.specs.Times.{belongs as isIn};
 ghost use Rattle.timestamp.specs.Belongs.{dashed, stepped, holds};
 ghost use Rattle.timestamp.specs.Set.{setOf};
-ghost use Rattle.timestamp.specs.Parse.{parsed, outcome};
+ghost use Rattle.timestamp.specs.Parse.{parsed, pickOutcome, outcome};
 ghost use Rattle.timestamp.specs.Numbers.{Onward, isFirst};
+ghost use Rattle.timestamp.specs.Ends.{EndsBy};
 ghost use Rattle.timestamp.specs.Reading.{more, opens, closes, startAt, view, bad, digitIn, dashIn, closeIn, stepIn};
 ghost use Rattle.xml.specs.Bytes.{isDigit};
 
@@ -248,6 +249,13 @@ pub struct Parsed {
     pub stamp: Timestamp,
 }
 
+// A text's set, where it is the text of one, and a number above all of its members.
+pub struct Scanned {
+    pub ok: bool,
+    pub end: usize,
+    pub stamp: Timestamp,
+}
+
 // The number stays below 1000 with this digit after it, and has no leading zero.
 fn may_follow(n: usize, b: u8) -> bool
     ensures { λ r. ⌜ r ≡ more n b ⌝ }
@@ -362,9 +370,10 @@ impl Reader {
     }
 }
 
-// The set with this text; refused where it is the text of no set of numbers 1 to 999, or of the empty one.
-pub fn parse(text: &[u8]) -> Parsed
-    ensures { λ r. ⌜ outcome r ≡ parsed (now (text .entry)) ⌝ }
+// The set with this text, and a number above all of its members; refused where it is the text of no set of numbers 1 to 999, or of the empty one.
+pub fn scan(text: &[u8]) -> Scanned
+    ensures { λ r. ⌜ (pickOutcome (r .ok) (setOf (r .stamp .words)) ≡ parsed (now (text .entry)))
+        × (r .ok ≡ true → EndsBy (r .end) (setOf (r .stamp .words))) ⌝ }
 {
     let mut words = [0u64; 16];
     let first = number_at(text, 0);
@@ -387,8 +396,21 @@ pub fn parse(text: &[u8]) -> Parsed
         at = m.to;
     }
     let y = x.close(&mut words);
-    Parsed {
+    Scanned {
         ok: y.ok,
+        end: y.p,
         stamp: Timestamp { words: words },
+    }
+}
+
+// The set with this text; refused where it is the text of no set of numbers 1 to 999, or of the empty one.
+pub fn parse(text: &[u8]) -> Parsed
+    ensures { λ r. ⌜ outcome r ≡ parsed (now (text .entry)) ⌝ }
+{
+    let x = scan(text);
+    let stamp = x.stamp;
+    Parsed {
+        ok: x.ok,
+        stamp: stamp,
     }
 }

@@ -3,10 +3,11 @@
 use crate::Timestamp;
 use crate::gap_in;
 use crate::next_in;
+use xml::writer::least;
 use xml::writer::put;
 ghost use mathlib.Core.Path.{_≡_};
 ghost use mathlib.Core.List.{[], _∷_};
-ghost use Prim.Native.Nat.{_+_, _-_, _^_, _<_, _≤_, min};
+ghost use Prim.Native.Nat.{_+_, _-_, _^_, _<_, _≤_};
 ghost use Rattle.xml.specs.Over.{Wrote};
 ghost use Rattle.timestamp.specs.Set.{setOf};
 ghost use Rattle.timestamp.specs.Times.{decimal, writeRun};
@@ -61,12 +62,6 @@ fn put_part(out: &mut [u8], at: usize, later: bool, lo: usize, hi: usize) -> usi
     } else {
         put_run(out, at, lo, hi)
     }
-}
-
-fn least(a: usize, b: usize) -> usize
-    ensures { λ r. ⌜ r ≡ min a b ⌝ }
-{
-    if a < b { a } else { b }
 }
 
 impl Timestamp {

@@ -3,19 +3,20 @@
 use Prim.Native.Nat.{ℕ, _+_, _%_, _<_, _≤_}
 use native.Mathlib.Omega.{arith}
 use mathlib.Core.Path.{_≡_, refl, sym, _∙_, ap}
-use mathlib.Core.Bool.{Bool, true, false, not, _&&_, _||_}
+use mathlib.Core.Bool.{and-false, Bool, true, false, not, _&&_, _||_}
 use mathlib.Core.List.{List}
-use borrow.Author.Tests.{le-leb, lt-leb, eqb-true, eqb-false}
+use borrow.Author.Tests.{le-leb, lt-leb, lt-ltb, le-ltb, eqb-true, eqb-false}
 use lib.Dec.{eqb, leb, ltb}
 use Rattle.xml.specs.Bytes.{Bytes}
 use Rattle.xml.specs.Forest.{Forest, end, elem, text, stamp, join, sameForest}
 use Rattle.xml.specs.Read.{unescape}
 use Rattle.xml.specs.Tape.{headAt, nextAt, Tape, at-end, at-text, at-elem, at-stamp}
 use Rattle.xml.specs.TapeLaws.{bytesAt, tape-le, tape-none, tape-join, front}
-use Rattle.xml.specs.Truth.{by-test}
+use Rattle.xml.specs.Truth.{by-test, clash, not-so, and-left, and-right, or-first, or-second}
 use Rattle.keys.specs.Legal.{untimed}
 use Rattle.timestamp.specs.Set.{setOf, none, upTo, joined, sameSet, apart, subset, firstIn}
-use Rattle.timestamp.specs.Parse.{refused, accepted, parsed, pickOutcome, outcome}
+use Rattle.timestamp.specs.Tests.{same-tells, apart-tells}
+use Rattle.timestamp.specs.Parse.{Outcome, refused, accepted, parsed, pickOutcome, outcome}
 use Rattle.timestamp.specs.declared.text.Parsed.{Parsed}
 
 -- ---- a node and those after it
@@ -103,21 +104,35 @@ judged n t u m c d (stamp b k r) =
     ]
 
 module _ (n : ℕ) (u : ℕ → Bool) (m : ℕ) (s : ℕ → Bool) where
-  pub follows-out : subset s (upTo n) ≡ false → follows n u m s ≡ false
+  pub follows-early : firstIn 1024 s 0 ≤ m → follows n u m s ≡ false
   unfolding follows
-  follows-out e = rw e
+  follows-early l = rw (le-ltb m (firstIn 1024 s 0) l) (and-false (subset s (upTo n) && apart s u))
 
-  pub follows-meets : apart s u ≡ false → follows n u m s ≡ false
+  pub follows-in : subset s (upTo n) ≡ true → apart s u ≡ true → m < firstIn 1024 s 0 → follows n u m s ≡ true
   unfolding follows
-  follows-meets e = go (subset s (upTo n)) (apart s u) e
-    where
-      go : (a b : Bool) → b ≡ false → (a && b && ltb m (firstIn 1024 s 0)) ≡ false
-      go true b e = rw e
-      go false b e = refl
+  follows-in e d l = rw (e, d) (lt-ltb m (firstIn 1024 s 0) l)
 
-  pub follows-in : subset s (upTo n) ≡ true → apart s u ≡ true → follows n u m s ≡ ltb m (firstIn 1024 s 0)
+  follows-apart : follows n u m s ≡ true → apart s u ≡ true
   unfolding follows
-  follows-in e d = rw (e, d)
+  follows-apart e = and-right (subset s (upTo n)) (apart s u) (and-left (subset s (upTo n) && apart s u) (ltb m (firstIn 1024 s 0)) e)
+
+-- where all are legal, the union so far is within the versions t
+module _ (n : ℕ) (t : ℕ → Bool) where
+  within-stamp : (u : ℕ → Bool) (m c : ℕ) (d : Forest) (b : Bytes) (k r : Forest)
+      → ((s : ℕ → Bool) → judged n t (joined u s) (firstIn 1024 s 0) (c + 1) (join d (stamp b k end)) r ≡ true → (v : ℕ) → v < 1024 → joined u s v ≡ true → t v ≡ true)
+      → (p : Outcome) → parsed b ≡ p → judged n t u m c d (stamp b k r) ≡ true → (v : ℕ) → v < 1024 → u v ≡ true → t v ≡ true
+  unfolding judged
+  within-stamp u m c d b k r ih refused q e v l h = clash (sym e ∙ rw (q, judged))
+  within-stamp u m c d b k r ih (accepted s) q e v l h =
+      ih s (and-right (follows n u m s && untimed k && not (repeats k d)) _ (rw (q, judged) at e)) v l (or-first (u v) (s v) h)
+
+  judged-within : (u : ℕ → Bool) (m c : ℕ) (d f : Forest) → judged n t u m c d f ≡ true → (v : ℕ) → v < 1024 → u v ≡ true → t v ≡ true
+  unfolding judged
+  judged-within u m c d end e v l h = sym (same-tells u t (and-right (leb 2 c) (sameSet u t) e) v l) ∙ h
+  judged-within u m c d (text b r) e v l h = clash (sym e)
+  judged-within u m c d (elem b k r) e v l h = clash (sym e)
+  judged-within u m c d (stamp b k r) e v l h =
+      within-stamp u m c d b k r (λ s. judged-within (joined u s) (firstIn 1024 s 0) (c + 1) (join d (stamp b k end)) r) (parsed b) refl e v l h
 
 -- what the reader of a timestamp answers
 pub outcome-refused : (r : Parsed) (l : Bytes) → outcome r ≡ parsed l → r .ok ≡ false → parsed l ≡ refused
@@ -159,6 +174,9 @@ pub record Way (src cells : List ℕ) (lo p q n : ℕ) (t u : ℕ → Bool) (m c
   pub before : Tape src cells lo p done
   pub after : Tape src cells p q rest
   pub answer : whole ≡ judged n t u m c done rest
+
+ends : (a b c d : Bool) → (a && b && c && d) ≡ true → (a ≡ true) × (d ≡ true)
+ends a b c d e = (and-left a b (and-left (a && b) c (and-left (a && b && c) d e)), and-right (a && b && c) d e)
 
 module _ {src cells : List ℕ} {n : ℕ} {t : ℕ → Bool} where
   pub way-start : {lo q : ℕ} {u : ℕ → Bool} {f : Forest} → Tape src cells lo q f → u ≡ none → Way src cells lo lo q n t u 0 0 (judged n t none 0 0 end f)
@@ -202,6 +220,17 @@ module _ {src cells : List ℕ} {n : ℕ} {t : ℕ → Bool} where
   pub way-not : {lo p q : ℕ} {u : ℕ → Bool} {m c : ℕ} {whole : Bool} → Way src cells lo p q n t u m c whole → p < q → headAt cells p % 4 ≡ 2
       → (s : ℕ → Bool) → parsed (bytesAt src cells p) ≡ accepted s → follows n u m s ≡ false → whole ≡ false
   way-not x l k s e h = step x l k s e ∙ rw h
+
+  -- its versions are of t, and new
+  pub way-new : {lo p q : ℕ} {u : ℕ → Bool} {m c : ℕ} {whole : Bool} → Way src cells lo p q n t u m c whole → p < q → headAt cells p % 4 ≡ 2
+      → (s : ℕ → Bool) → parsed (bytesAt src cells p) ≡ accepted s → whole ≡ true → (v : ℕ) → v < 1024 → s v ≡ true → (t v ≡ true) × (u v ≡ false)
+  way-new {p = p} {u = u} {m} {c} x l k s e h v small i =
+      let g = first (x .after) l in
+      let d = join (x .done) (stamp (bytesAt src cells p) (g .kids) end) in
+      let a = ends (follows n u m s) (untimed (g .kids)) (not (repeats (g .kids) (x .done))) (judged n t (joined u s) (firstIn 1024 s 0) (c + 1) d (g .rest)) (sym (step x l k s e) ∙ h) in (
+        judged-within n t (joined u s) (firstIn 1024 s 0) (c + 1) d (g .rest) (a .1) v small (or-second (u v) (s v) i),
+        not-so (u v) (λ j. apart-tells s u (follows-apart n u m s (a .0)) v small i j),
+      )
 
   pub way-timed : {lo p q : ℕ} {u : ℕ → Bool} {m c : ℕ} {whole : Bool} → Way src cells lo p q n t u m c whole → p < q → headAt cells p % 4 ≡ 2
       → (s : ℕ → Bool) → parsed (bytesAt src cells p) ≡ accepted s → follows n u m s ≡ true

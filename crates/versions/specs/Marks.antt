@@ -5,8 +5,8 @@ use native.Mathlib.Numerals.{add-one}
 use mathlib.Core.Path.{_≡_, refl, sym, _∙_, ap, ap₂}
 use mathlib.Core.Bool.{Bool, true, false, not, _&&_}
 use mathlib.Core.List.{List, [], _∷_, _++_}
-use borrow.Author.Tests.{eq-eqb, ne-eqb, ltb-true, ltb-false, not-true, not-false}
-use lib.Dec.{eqb, ltb}
+use borrow.Author.Tests.{eq-eqb, ne-eqb, not-true, not-false}
+use lib.Dec.{eqb}
 use lib.ListN.{length, take, drop, getD, set, length-drop, take-append-drop}
 use lib.Seq.{slice, slice-empty, drop-cons, take-suc-set}
 use Rattle.xml.specs.Bytes.{Bytes}
@@ -16,16 +16,11 @@ use Rattle.xml.specs.Read.{unescape}
 use Rattle.xml.specs.SignLaws.{Meant}
 use Rattle.xml.specs.Tape.{headAt, nextAt, Tape, at-end, at-text, at-elem, at-stamp, size}
 use Rattle.xml.specs.TapeLaws.{bytesAt, tape-none, tape-size, tape-join, tape-one, front, split, inner-node}
-use Rattle.xml.specs.Truth.{by-test, clash, not-so, and-left, and-right}
+use Rattle.xml.specs.Truth.{by-test, not-so, and-left, and-right}
 use Rattle.xml.specs.declared.text.Sign.{Sign}
 use Rattle.keys.specs.Legal.{untimed}
-use Rattle.timestamp.specs.Set.{upTo, joined, apart, subset, firstIn}
-use Rattle.timestamp.specs.First.{first-before}
-use Rattle.timestamp.specs.Listed.{listed}
+use Rattle.timestamp.specs.Set.{joined, firstIn}
 use Rattle.timestamp.specs.Parse.{accepted, parsed}
-use Rattle.versions.specs.Walk.{timesIn, canonical, ever}
-use Rattle.versions.specs.ListedLaws.{ever-some}
-use Rattle.versions.specs.LegalTexts.{fits, legal-text, legal-set}
 use Rattle.versions.specs.Branches.{first, repeats, follows, Way, way-timed, way-repeats, way-more}
 
 -- a number folded into a mark
@@ -261,16 +256,3 @@ module _ {src cells : List ℕ} {n : ℕ} {t : ℕ → Bool} where
   way-legal x l k s e h r a b =
       way-more x l k s e h (λ g v. sym (and-left (untimed g) (not (repeats g (x .done))) (sym (r (x .done) g (x .before) v))))
       (λ d g y v. sym (not-true (repeats g d) (and-right (untimed g) (not (repeats g d)) (sym (r d g y v))))) a b
-
--- ---- a set that may come after begins after m, at n at most
-pub follows-first : (n : ℕ) → n ≤ 999 → (b : Bytes) (s u : ℕ → Bool) (m : ℕ) → parsed b ≡ accepted s → follows n u m s ≡ true
-    → (m < firstIn 1024 s 0) × (firstIn 1024 s 0 ≤ n)
-unfolding follows listed
-follows-first n small b s u m e h =
-    let f = firstIn 1024 s 0 in
-    let a = and-left (subset s (upTo n)) (apart s u) (and-left (subset s (upTo n) && apart s u) (ltb m f) h) in
-    let v = ever-some s 1 n (ap ever (sym (legal-set n b small s e)) ∙ and-right (canonical n b) (ever (timesIn n b)) (legal-text n b small ∙ ap (fits n) e ∙ a)) in (
-      ltb-true m f (and-right (subset s (upTo n) && apart s u) (ltb m f) h),
-      by-test (ltb (v .0) f) (λ z. clash (sym (v .3) ∙ first-before s 1024 0 (v .0) (omega arith) (ltb-true (v .0) f z)))
-          (λ z. omega (arith, ltb-false (v .0) f z, v .2)),
-    )

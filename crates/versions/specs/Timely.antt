@@ -5,6 +5,7 @@ use mathlib.Core.Path.{_≡_, refl, sym, _∙_, ap}
 use mathlib.Core.Bool.{Bool, true, false}
 use mathlib.Core.List.{List}
 use lib.Dec.{eqb}
+use lib.ListN.{length}
 use borrow.Author.Tests.{eqb-true, eqb-false}
 use Rattle.xml.specs.Bytes.{Bytes}
 use Rattle.xml.specs.Forest.{Forest, elem, text, stamp}
@@ -14,8 +15,9 @@ use Rattle.xml.specs.Tape.{headAt, nextAt, Tape, at-end, at-text, at-elem, at-s
 use Rattle.xml.specs.TapeLaws.{bytesAt, split, inner-node, front, tape-le}
 use Rattle.keys.specs.KeyList.{KeyList}
 use Rattle.timestamp.specs.Times.{Times}
-use Rattle.timestamp.specs.Set.{setOf, cutAt}
-use Rattle.timestamp.specs.Listed.{listed, Only, only-cut}
+use Rattle.timestamp.specs.Set.{setOf, cutAt, sameSet}
+use Rattle.timestamp.specs.Tests.{same-sets}
+use Rattle.timestamp.specs.Listed.{listed, textOf, Only, only-cut}
 use Rattle.timestamp.specs.Parse.{Outcome, refused, accepted, parsed, pickOutcome}
 use Rattle.timestamp.specs.Parses.{text-parse}
 use Rattle.versions.specs.Archive.{lastVersion}
@@ -32,9 +34,11 @@ pub record Timely (i : ℕ) (src cells : List ℕ) (lo hi : ℕ) : Type 0 where
   pub tape : Tape src cells lo hi forest
   pub timed : AllTimed last forest
 
--- the words hold the presence list t of i versions
-abbrev pub HoldsTimes : ℕ → List ℕ → Times → Type 0
-HoldsTimes i words t = Only i (setOf words) × (listed i (setOf words) ≡ t)
+-- the words hold what a cut at i leaves of the set with the text s; where it is whole, all of it
+pub record CutTo (i : ℕ) (s : Bytes) (words : List ℕ) (whole : Bool) : Type 0 where
+  pub only : Only i (setOf words)
+  pub listed-is : listed i (setOf words) ≡ timesIn i s
+  pub text-is : whole ≡ true → textOf (setOf words) ≡ s
 
 -- a text of a set of some 1 to n versions
 pub record LegalText (s : Bytes) : Type 0 where
@@ -56,13 +60,17 @@ outcome-set true w u e = cc
 outcome-set false w u e = let z : _≡_ {A = ℕ} 0 1 = cc in absurd (omega arith)
 
 -- and cut at i
-pub cut-holds : (i : ℕ) (s : Bytes) (ok : Bool) (read cut : List ℕ) → i ≤ 999 → pickOutcome ok (setOf read) ≡ parsed s → setOf cut ≡ cutAt i (setOf read)
-    → LegalText s → HoldsTimes i cut (timesIn i s)
-cut-holds i s ok read cut l e d h =
+pub cut-to : (i : ℕ) (s : Bytes) (ok whole : Bool) (read cut : List ℕ) → i ≤ 999 → length read ≡ 16 → length cut ≡ 16 → pickOutcome ok (setOf read) ≡ parsed s
+    → setOf cut ≡ cutAt i (setOf read) → whole ≡ sameSet (setOf cut) (setOf read) → LegalText s → CutTo i s cut whole
+cut-to i s ok whole read cut l lr lc e d w h =
     let x = legal-read s h in
-    let p = text-parse s (x .0) (x .1) in
-    let z : setOf cut ≡ cutAt i (x .0) = d ∙ ap (cutAt i) (outcome-set ok (setOf read) (x .0) (e ∙ x .1)) in
-    rw z (only-cut 999 i (x .0) (p .1), sym (times-cut i (x .0) l) ∙ ap (timesIn i) (sym (p .0)))
+    let is : setOf read ≡ x .0 = outcome-set ok (setOf read) (x .0) (e ∙ x .1) in
+    let p = text-parse s (setOf read) (x .1 ∙ ap accepted (sym is)) in
+    record {
+      only = rw d (only-cut 999 i (setOf read) (p .1));
+      listed-is = rw d (sym (times-cut i (setOf read) l) ∙ ap (timesIn i) (sym (p .0)));
+      text-is = λ t. ap textOf (same-sets cut read lc lr (sym w ∙ t)) ∙ sym (p .0);
+    }
 
 module _ {i : ℕ} {src cells : List ℕ} where
   pub timely-first : {p q : ℕ} → Timely i src cells p q → p < q → Timely i src cells p (nextAt cells p)

@@ -47,6 +47,7 @@ pub mod SignLaws
 pub mod WriteLaws
 pub mod SameTapes
 pub mod CompareLaws
+pub mod Alike
 pub mod Neat
 pub mod NeatLaws
 pub mod NeatWritten

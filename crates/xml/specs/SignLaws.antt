@@ -3,7 +3,7 @@ use Prim.Native.Nat.{ℕ, zero, suc, _+_, _*_, _-_, _<_, _≤_}
 use Prim.Native.Char.{code}
 use mathlib.Core.Path.{_≡_, refl, ap, ap₂, sym, _∙_, subst}
 use mathlib.Core.Bool.{Bool, true, false, _||_}
-use mathlib.Core.List.{[], _∷_, _++_}
+use mathlib.Core.List.{[], _∷_, _++_, append-nil}
 use native.Mathlib.Numerals.{add-one}
 use native.Mathlib.Omega.{arith}
 use lib.Dec.{eqb}
@@ -160,7 +160,14 @@ unfolding plainLen
 plain-fits [] = omega arith
 plain-fits (b ∷ s) = by-test (isMarked b) (λ e. rw (plain-off b s e) (omega arith)) (λ e. rw (plain-on b s e) (omega (arith, plain-fits s)))
 
--- the bytes that are written as they stand, and the rest
+-- the bytes that stand for themselves and are written as they stand, and the rest
+pub means-plain : (s : Bytes) → unescape 0 s ≡ take (plainLen s) s ++ unescape 0 (drop (plainLen s) s)
+unfolding plainLen unescape
+means-plain [] = refl
+means-plain (b ∷ s) =
+    by-test (isMarked b) (λ e. rw (plain-off b s e) refl)
+    (λ e. rw (plain-on b s e) (unescape-plain b s (not-marked b e .no-amp) ∙ ap (λ (x : Bytes). b ∷ x) (means-plain s)))
+
 pub spelt-plain : (s : Bytes) → spelt s ≡ take (plainLen s) s ++ spelt (drop (plainLen s) s)
 unfolding plainLen unescape escape
 spelt-plain [] = refl
@@ -199,10 +206,11 @@ pub escape-gt : (b : ℕ) → b ≡ code ">" → escape (b ∷ []) ≡ bytes "&g
 unfolding escape bytes
 escape-gt b e = rw e
 
--- ---- a run that is written on its way: the bytes i to j stand for themselves
+-- ---- a run that is read or written on its way: the bytes i to j stand for themselves
 pub record Running (src : Bytes) (i e j : ℕ) : Type 0 where
   pub forward : i ≤ j
   pub inside : j ≤ e
+  pub means : unescape 0 (slice i e src) ≡ slice i j src ++ unescape 0 (slice j e src)
   pub written : spelt (slice i e src) ≡ slice i j src ++ spelt (slice j e src)
 
 pub running : (src : Bytes) (i e j : ℕ) → i ≤ e → e ≤ length src → j ≡ i + plainLen (slice i e src) → Running src i e j
@@ -212,7 +220,12 @@ running src i e j h k d =
     let l : n ≤ e - i = rw (length-slice i e src k) at (plain-fits s) in
     let x : take n s ≡ slice i j src = sym (slice-part i n (take e src)) ∙ ap (drop i) (take-take (i + n) e src (omega arith)) ∙ ap (λ (m : ℕ). slice i m src) (sym d) in
     let y : drop n s ≡ slice j e src = slice-skip i e n src ∙ ap (λ (m : ℕ). slice m e src) (sym d) in
-    record { forward = omega arith; inside = omega arith; written = spelt-plain s ∙ ap₂ (λ (u v : Bytes). u ++ spelt v) x y }
+    record {
+      forward = omega arith;
+      inside = omega arith;
+      means = means-plain s ∙ ap₂ (λ (u v : Bytes). u ++ unescape 0 v) x y;
+      written = spelt-plain s ∙ ap₂ (λ (u v : Bytes). u ++ spelt v) x y;
+    }
 
 pub spelt-sign : {src : Bytes} {i e : ℕ} {g : Sign} → Meant src i e g → spelt (slice i e src) ≡ escape (g .byte ∷ []) ++ spelt (slice (g .next) e src)
 spelt-sign {src} {i} {e} {g} m = ap escape (m .means) ∙ escape-cons (g .byte) (unescape 0 (slice (g .next) e src))
@@ -223,3 +236,8 @@ length-spelt s = omega (arith, length-escape (unescape 0 s), length-unescape 0 s
 pub spelt-over : (src : Bytes) (e : ℕ) → spelt (slice e e src) ≡ []
 unfolding unescape escape
 spelt-over src e = rw (slice-empty e src)
+
+-- a run with no marked byte is written as it stands
+pub plain-length : (src : Bytes) (a e : ℕ) → a ≤ e → e ≤ length src → e ≡ a + plainLen (slice a e src) → e - a ≡ length (spelt (slice a e src))
+plain-length src a e h k d =
+    rw (running src a e e h k d .written, spelt-over src e, append-nil) (sym (length-slice a e src k))

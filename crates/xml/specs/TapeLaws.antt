@@ -9,7 +9,7 @@ use native.Mathlib.Omega.{arith}
 use lib.Dec.{eqb}
 use lib.ListN.{length, take, drop, getD, length-append}
 use lib.Seq.{slice, length-slice, take-nil}
-use borrow.Author.Tests.{eq-eqb, ne-eqb}
+use borrow.Author.Tests.{eq-eqb, ne-eqb, eqb-true}
 use Rattle.xml.specs.Bytes.{Bytes, bytes}
 use Rattle.xml.specs.Forest.{Forest, end, elem, text, stamp, join, write, escape}
 use Rattle.xml.specs.Read.{entityAt, unescape}
@@ -18,6 +18,8 @@ use Rattle.xml.specs.declared.Found.the-variants.{Hit, Miss}
 use Rattle.xml.specs.Over.{Wrote}
 use Rattle.xml.specs.OverLaws.{wrote-none, wrote-then}
 use Rattle.xml.specs.Tape.{headAt, nextAt, startIn, endIn, Node, Tape, at-end, at-text, at-elem, at-stamp, size, Writes}
+use Rattle.xml.specs.Views.{isRun}
+use Rattle.xml.specs.Truth.{both-true}
 
 -- the bytes that name the node p
 abbrev pub bytesAt : List ℕ → List ℕ → ℕ → Bytes
@@ -62,6 +64,12 @@ pub record Inner (src cells : List ℕ) (p : ℕ) (f : Forest) : Type 0 where
   pub element : headAt cells p % 4 ≡ 1 → f ≡ elem (bytesAt src cells p) kids end
   pub timed : headAt cells p % 4 ≡ 2 → f ≡ stamp (bytesAt src cells p) kids end
   pub written : write f ≡ opening (eqb (headAt cells p % 4) 1) (bytesAt src cells p) ++ write kids ++ closing (eqb (headAt cells p % 4) 1) (bytesAt src cells p)
+
+-- the nodes p to q are one run of text: its node, and no other
+pub record OneRun (src cells : List ℕ) (p q : ℕ) : Type 0 where
+  pub run : headAt cells p % 4 ≡ 0
+  pub node : Front src cells p q
+  pub ends : q ≡ nextAt cells p
 
 -- a writer on its way: of `whole`, it has written `done`, and the nodes p to q are left
 pub record Rest (src cells : List ℕ) (p q : ℕ) (whole out : List ℕ) (at to : ℕ) (left : List ℕ) : Type 0 where
@@ -145,6 +153,14 @@ module _ {src cells : List ℕ} where
   front (at-text n u e r) l = record { held = n .held; within = n .within; forward = omega arith; inside = omega (arith, tape-le r); kind = omega (arith, n .kind-is) }
   front (at-elem n k r) l = record { held = n .held; within = n .within; forward = omega (arith, tape-le k); inside = tape-le r; kind = omega (arith, n .kind-is) }
   front (at-stamp n k r) l = record { held = n .held; within = n .within; forward = omega (arith, tape-le k); inside = tape-le r; kind = omega (arith, n .kind-is) }
+
+  pub one-run : {p q : ℕ} {f : Forest} → Tape src cells p q f → isRun cells p q ≡ true → OneRun src cells p q
+  unfolding isRun
+  one-run {p} {q} t e =
+      let h = both-true (eqb (q - p) 1) (eqb (headAt cells p % 4) 0) e in
+      let d = eqb-true (q - p) 1 (h .0) in
+      let s = front t (omega arith) in
+      record { run = eqb-true (headAt cells p % 4) 0 (h .1); node = s; ends = omega (arith, s .forward, s .inside) }
 
   pub split : {p q : ℕ} {f : Forest} → Tape src cells p q f → p < q → Split src cells p q f
   unfolding write join

@@ -18,7 +18,7 @@ use Rattle.xml.specs.declared.text.Sign.{Sign}
 use Rattle.xml.specs.Over.{overAt, Wrote}
 use Rattle.xml.specs.OverLaws.{length-at, at-past, at-set, at-then, wrote-none, wrote-then}
 use Rattle.xml.specs.Tape.{headAt, nextAt, Tape, Valid, Writes}
-use Rattle.xml.specs.TapeLaws.{slice-part, bytesAt, opening, Inner, Rest, split, text-node, length-write}
+use Rattle.xml.specs.TapeLaws.{slice-part, bytesAt, opening, Inner, OneRun, Rest, split, text-node, length-write}
 
 -- the nodes lo to hi are a forest, and a word holds the place after it
 pub record Fit (src cells : List ℕ) (lo hi at : ℕ) : Type 0 where
@@ -146,3 +146,7 @@ module _ {src cells : List ℕ} where
       → Writes src cells p (nextAt cells p) mid to r left
   unfolding write
   text-writes l k w f t = rw (text-node t l k, append-nil) w
+
+  -- nodes that are one run of text
+  pub run-writes : {p q to r : ℕ} {mid left : List ℕ} → OneRun src cells p q → Wrote mid to (spelt (bytesAt src cells p)) r left → Writes src cells p q mid to r left
+  run-writes x w f t = text-writes (x .node .forward) (x .run) w f (rw (x .ends) at t)

@@ -1,13 +1,16 @@
 // Comparing: the bytes of two parts, what two runs of text mean, and two parts of tapes as forests; and tests of one run.
 use crate::class::is_white_byte;
 use crate::tape::view_at;
+use crate::text::plain_end;
 use crate::text::sign_at;
+use crate::writer::least;
 use crate::writer::put_text;
 ghost use mathlib.Core.Path.{_≡_};
-ghost use mathlib.Core.Bool.{Bool};
-ghost use Prim.Native.Nat.{ℕ, _-_, _<_, _≤_};
+ghost use mathlib.Core.Bool.{Bool, false};
+ghost use Prim.Native.Nat.{ℕ, _+_, _-_, _<_, _≤_};
 ghost use lib.ListN.{length};
 ghost use lib.Seq.{slice};
+ghost use Rattle.xml.specs.Alike.{isUnlike, Alike, Onward};
 ghost use Rattle.xml.specs.Bytes.{all, same, isWhite};
 ghost use Rattle.xml.specs.Read.{unescape};
 ghost use Rattle.xml.specs.Forest.{Forest, sameForest};
@@ -35,7 +38,66 @@ pub fn same_bytes(src1: &[u8], a1: usize, e1: usize, src2: &[u8], a2: usize, e2:
     true
 }
 
-// The runs of text whose raw bytes are src1[a1..e1] and src2[a2..e2] mean the same.
+// A byte of one text that is not the other's, or begins an entity; told without a branch.
+fn is_unlike(x: u8, y: u8) -> bool
+    ensures { λ r. ⌜ r ≡ isUnlike x y ⌝ }
+{
+    (x != y) | (x == b'&')
+}
+
+// Whether one of sixteen bytes is unlike; without a branch, so that they are compared at once.
+fn has_unlike(src1: &[u8], i: usize, src2: &[u8], j: usize) -> bool
+    requires { ⌜ (i + 16 ≤ length (now src1)) × (j + 16 ≤ length (now src2)) ⌝ }
+    ensures { λ r. ⌜ (r ≡ false → Alike (now (src1 .entry)) i (now (src2 .entry)) j 16) ⌝ }
+{
+    let mut hit = false;
+    for k in 0..16 {
+        hit = hit | is_unlike(src1[i + k], src2[j + k]);
+    }
+    hit
+}
+
+// A number of bytes, at most `count`, that are alike from src1[i] and src2[j] on: blocks of sixteen.
+fn alike_blocks(src1: &[u8], i: usize, src2: &[u8], j: usize, count: usize) -> usize
+    requires { ⌜ (i + count ≤ length (now src1)) × (j + count ≤ length (now src2)) ⌝ }
+    ensures { λ r. ⌜ (r ≤ count) × Alike (now (src1 .entry)) i (now (src2 .entry)) j r ⌝ }
+{
+    let mut n = 0;
+    while 16 <= count - n {
+        if has_unlike(src1, i + n, src2, j + n) {
+            return n;
+        }
+        n += 16;
+    }
+    n
+}
+
+// The same, byte by byte.
+fn alike_bytes(src1: &[u8], i: usize, src2: &[u8], j: usize, count: usize) -> usize
+    requires { ⌜ (i + count ≤ length (now src1)) × (j + count ≤ length (now src2)) ⌝ }
+    ensures { λ r. ⌜ (r ≤ count) × Alike (now (src1 .entry)) i (now (src2 .entry)) j r ⌝ }
+{
+    let mut n = 0;
+    while n < count {
+        if is_unlike(src1[i + n], src2[j + n]) {
+            return n;
+        }
+        n += 1;
+    }
+    n
+}
+
+// How many bytes at the start of the runs src1[i..e1] and src2[j..e2] are alike, and so mean the same: whole blocks first, then byte by byte.
+fn alike_len(src1: &[u8], i: usize, e1: usize, src2: &[u8], j: usize, e2: usize) -> usize
+    requires { ⌜ Parts (now src1) i e1 (now src2) j e2 ⌝ }
+    ensures { λ r. ⌜ Onward (now (src1 .entry)) i e1 (now (src2 .entry)) j e2 r ⌝ }
+{
+    let count = least(e1 - i, e2 - j);
+    let n = alike_blocks(src1, i, src2, j, count);
+    n + alike_bytes(src1, i + n, src2, j + n, count - n)
+}
+
+// The runs of text whose raw bytes are src1[a1..e1] and src2[a2..e2] mean the same: bytes that are alike are passed together.
 pub fn same_run(src1: &[u8], a1: usize, e1: usize, src2: &[u8], a2: usize, e2: usize) -> bool
     requires { ⌜ Parts (now src1) a1 e1 (now src2) a2 e2 ⌝ }
     ensures { λ r. ⌜ r ≡ same (unescape 0 (slice a1 e1 (now (src1 .entry)))) (unescape 0 (slice a2 e2 (now (src2 .entry)))) ⌝ }
@@ -51,8 +113,9 @@ pub fn same_run(src1: &[u8], a1: usize, e1: usize, src2: &[u8], a2: usize, e2: u
         if s.byte != t.byte {
             return false;
         }
-        i = s.next;
-        j = t.next;
+        let more = alike_len(src1, s.next, e1, src2, t.next, e2);
+        i = s.next + more;
+        j = t.next + more;
     }
     e2 <= j
 }
@@ -130,11 +193,14 @@ pub fn is_white(src: &[u8], a: usize, e: usize) -> bool
     true
 }
 
-// The length of the run src[a..e] as it is written.
+// The length of the run src[a..e] as it is written: without a marked byte, as it stands.
 pub fn text_len(src: &[u8], a: usize, e: usize) -> usize
     requires { ⌜ (a ≤ e) × (e ≤ length (now src)) × (e - a ≤ 32768) ⌝ }
     ensures { λ r. ⌜ r ≡ length (spelt (slice a e (now (src .entry)))) ⌝ }
 {
+    if plain_end(src, a, e) == e {
+        return e - a;
+    }
     let mut none = [0u8; 0];
     put_text(src, a, e, &mut none, 0)
 }

@@ -19,7 +19,7 @@ ghost use Rattle.xml.specs.Stretch.{Each, Passed, Times, isFar, brackets
 ghost use Rattle.xml.specs.Tokens.{TimesRead, StartRead, EndRead, EndNamed};
 
 // The byte at a place; the end of the text counts as a byte 0.
-pub(crate) fn byte_at(src: &[u8], i: usize) -> u8
+pub fn byte_at(src: &[u8], i: usize) -> u8
     ensures { λ r. ⌜ r ≡ getD (now (src .entry)) i 0 ⌝ }
 {
     if i < src.len() { src[i] } else { 0 }

@@ -1,8 +1,8 @@
-// A node of the tape: the one way to read its two cells.
+// The nodes of the tape: the one way to read a node's two cells.
 ghost use mathlib.Core.Path.{_≡_};
-ghost use Prim.Native.Nat.{_+_, _*_, _<_};
+ghost use Prim.Native.Nat.{_+_, _*_, _<_, _≤_};
 ghost use lib.ListN.{length};
-ghost use Rattle.xml.specs.Views.{viewAt};
+ghost use Rattle.xml.specs.Views.{viewAt, isRun};
 
 // The bytes start to end of the text name the node; kind 0 is a run of text, 1 an element, 2 an archive's `T`; next is the first node
 // after its subtree.
@@ -25,4 +25,15 @@ pub fn view_at(tape: &[u32], p: usize) -> View
         kind: head % 4,
         next: tape[2 * p + 1] as usize,
     }
+}
+
+// Whether the nodes lo to hi are one run of text and nothing else.
+pub fn is_run(tape: &[u32], lo: usize, hi: usize) -> bool
+    requires { ⌜ (lo ≤ hi) × (lo < hi → 2 * lo + 1 < length (now tape)) ⌝ }
+    ensures { λ r. ⌜ r ≡ isRun (now (tape .entry)) lo hi ⌝ }
+{
+    if hi - lo != 1 {
+        return false;
+    }
+    view_at(tape, lo).kind == 0
 }

@@ -42,7 +42,7 @@ impl Workload {
 }
 
 pub fn all() -> Vec<Workload> {
-    vec![record(), typical(50), full(), counter(999), gaps(999), lamps(999)]
+    vec![record(), typical(50), full(), counter(999), gaps(999), lamps(999), deep()]
 }
 
 /// An archive as it grows.
@@ -228,4 +228,23 @@ pub fn lamps(versions: usize) -> Workload {
         archive.add(&format!("<station>{lamps}</station>"));
     }
     archive.done("lamps", "/station/lamp[pos=\"77\"]")
+}
+
+/// Eight levels of key paths, the last with two siblings, and sixteen of elements, each level in a
+/// `T` of its own: what takes the most stack. Names are long, so that the texts are not short ones.
+pub fn deep() -> Workload {
+    let name = |level: usize| "abcdefghijklmnopq"[level..=level].repeat(32);
+    let path = |levels: usize| (0..levels).map(|level| format!("/{}", name(level))).collect::<String>();
+    let line = |levels: usize, last: usize| format!("({}, ({}, {{}}))\n", if levels == 0 { "/".into() } else { path(levels) }, name(last));
+    let nested = |levels: std::ops::Range<usize>, inside: &str| {
+        let open: String = levels.clone().map(|level| format!("<{}>", name(level))).collect();
+        let close: String = levels.rev().map(|level| format!("</{}>", name(level))).collect();
+        format!("{open}{inside}{close}")
+    };
+    let whole = |inside: &str| nested(0..7, &(nested(16..17, inside) + &nested(7..16, inside)));
+    let mut archive = Growing::new(&((0..8).map(|level| line(level, level)).collect::<String>() + &line(7, 16)));
+    archive.add(&whole("before"));
+    (1..8).rev().for_each(|levels| archive.add(&nested(0..levels, "")));
+    archive.add(&whole("after"));
+    archive.done("deep", &path(8))
 }

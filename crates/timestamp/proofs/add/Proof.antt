@@ -1,4 +1,5 @@
 -- `timestamp::add` meets its contract.
+use native.Mathlib.Omega.{arith}
 use borrow.Author.Needs.{needs}
 use lib.ListN.{length-set}
 use Rattle.timestamp.specs.Words.{with-set}
@@ -21,7 +22,7 @@ element-write-words : tie.Need-element-write-words
 element-write-words c = search needs
 
 returns : tie.Need-returns
-returns c = (with-set (c .before .args .words .now) (c .before .args .v) (c .before .pre .1) (c .before .pre .0), simp length-set (c .before .pre .1))
+returns c = (with-set (c .before .args .words .now) (c .before .args .v) (omega arith), simp length-set (c .before .pre .1))
 
 pub add-spec : {M : Type 1} → statement M
 add-spec =

@@ -27,7 +27,7 @@ slice-aggregate-add-under : tie.Need-slice-aggregate-add-under
 slice-aggregate-add-under c = search needs
 
 add-under-requires : tie.Need-add-under-requires
-add-under-requires c κs = let t = load-table _ _ (c .before .before .before .before .n .given .1) (c .before .before .before .before .before .before .before .load .ensures) in (record { keys = t .0; table = t .1 }, c .before .before .before .before .before .before .before .before .before .if3 .left, c .before .before .before .before .before .before .before .before .before .before .if2 .left, c .before .before .before .before .before .before .before .before .before .before .before .before .before .before .before .before .before .pre)
+add-under-requires c κs = let t = load-table _ _ (c .before .before .before .before .n .given .1) (c .before .before .before .before .before .before .before .load .ensures) in (record { keys = t .0; table = t .1 }, c .before .before .before .before .before .before .before .before .before .if3 .left, c .before .before .before .before .before .before .before .before .before .before .if2 .left, c .before .before .before .before .before .before .before .before .before .before .before .before .before .before .before .before .before .pre .0, c .before .before .before .before .before .before .before .before .before .before .before .before .before .before .before .before .before .pre .1)
 
 enum-told : tie.Need-enum-told
 enum-told c = search needs

@@ -12,8 +12,8 @@ use Rattle.keys.specs.Version.{_▸_}
 use Rattle.keys.specs.Table.{placeOf}
 use Rattle.keys.specs.Placed.{OfPlace}
 use Rattle.keys.specs.Entries.{Sorted}
-use Rattle.keys.specs.Building.{Progress, turn, turn-fit, progress-more, progress-done, fit-checked, fit-few-tags, fit-apart, progress-start}
-use Rattle.keys.specs.BuildingLaws.{fit-kids, element-built, element-end, element-size, fit-linked, fit-few, content-copied}
+use Rattle.keys.specs.Building.{Progress, turn, turn-fit, progress-twice, progress-more, progress-done, fit-checked, fit-few-tags, fit-twice, progress-start}
+use Rattle.keys.specs.BuildingLaws.{fit-kids, element-twice, element-arranged, element-end, element-size, fit-linked, fit-few, content-copied}
 use Prim.Native.Nat.{ℕ, _+_, _*_, _-_, _<_, _≤_}
 use borrow.Fn.Kinds.{In}
 use borrow.Fn.PlainCycle.{Measures, is, falls, and}
@@ -79,10 +79,8 @@ module _ (t : ℕ) where
   listed c = let g = c .before .before .before .before .before .before .before .before .before .pre .1 .0 in c .order-in .ensures .sorted (g .keyList) (g .path) (g .tabled) (g .place-is) (g .forest) (g .tape)
 
   -- at most 512
-  most : (c : arrange-content-lts.After-order-in (arrange-content-calls t) (arrange-content-at t) arrange-content.Post arrange-content-Inv-loop arrange-content-μ-loop) → c .order-in .result ≤ 512
-  most c =
-      let n = fit-apart (c .before .before .before .before .before .before .before .before .before .pre .1 .0) (c .before .before .before .before .before .before .before .before .before .args .out .now) (c .order-in .last .1 .1 .1 .1 .1 .1 .1 .1 .0) (c .order-in .result) (high (c .before .before)) (listed c) in
-      omega (arith, c .order-in .ensures .small)
+  most : (c : arrange-content-lts.Else2 (arrange-content-calls t) (arrange-content-at t) arrange-content.Post arrange-content-Inv-loop arrange-content-μ-loop) → c .before .order-in .result ≤ 512
+  most c = omega (arith, c .if2 .left, c .before .order-in .ensures .small)
 
   inside : (c : arrange-content-lts.In-loop (arrange-content-calls t) (arrange-content-at t) arrange-content.Post arrange-content-Inv-loop arrange-content-μ-loop) → c .before .loop .j < 512
   inside c = omega (arith, most (c .before .before), c .loop-test .taken)
@@ -102,8 +100,11 @@ module _ (t : ℕ) where
   arrange-content-order-in-requires : arrange-content-lts.Need-order-in-requires (arrange-content-calls t) (arrange-content-at t) arrange-content.Post arrange-content-Inv-loop arrange-content-μ-loop
   arrange-content-order-in-requires c κs = (fit-checked (c .before .before .before .before .before .before .before .before .pre .1 .0), fit-few-tags (c .before .before .before .before .before .before .before .before .pre .1 .0), refl)
 
+  arrange-content-returns-2 : arrange-content-lts.Need-returns-2 (arrange-content-calls t) (arrange-content-at t) arrange-content.Post arrange-content-Inv-loop arrange-content-μ-loop
+  arrange-content-returns-2 c = fit-twice (c .before .before .before .before .before .before .before .before .before .before .pre .1 .0) (c .before .before .before .before .before .before .before .before .before .before .args .out .now) (c .before .order-in .last .1 .1 .1 .1 .1 .1 .1 .1 .0) (c .before .order-in .result) (high (c .before .before .before)) (listed (c .before)) (c .if2 .taken)
+
   arrange-content-loop-holds : arrange-content-lts.Need-loop-holds (arrange-content-calls t) (arrange-content-at t) arrange-content.Post arrange-content-Inv-loop arrange-content-μ-loop
-  arrange-content-loop-holds c = progress-start (c .before .before .before .before .before .before .before .before .before .pre .1 .0) (c .before .before .before .before .before .before .before .before .before .args .out .now) (c .order-in .last .1 .1 .1 .1 .1 .1 .1 .1 .0) (c .order-in .result) (high (c .before .before)) (listed c)
+  arrange-content-loop-holds c = progress-start (c .before .before .before .before .before .before .before .before .before .before .pre .1 .0) (c .before .before .before .before .before .before .before .before .before .before .args .out .now) (c .before .order-in .last .1 .1 .1 .1 .1 .1 .1 .1 .0) (c .before .order-in .result) (high (c .before .before .before)) (listed (c .before)) (c .if2 .left)
 
   arrange-content-mul-p : arrange-content-lts.Need-mul-p (arrange-content-calls t) (arrange-content-at t) arrange-content.Post arrange-content-Inv-loop arrange-content-μ-loop
   arrange-content-mul-p c = omega (arith, inside c)
@@ -117,25 +118,31 @@ module _ (t : ℕ) where
   arrange-content-arrange-element-requires : arrange-content-lts.Need-arrange-element-requires (arrange-content-calls t) (arrange-content-at t) arrange-content.Post arrange-content-Inv-loop arrange-content-μ-loop
   arrange-content-arrange-element-requires c κs =
       let y = turn (c .before .before .loop .inv) (c .before .loop-test .taken) in
-      (omega (arith, c .before .before .before .before .before .before .before .before .before .before .before .before .pre .0, y .entry .low, y .entry .inside, tape-le (y .entry .inner)), (turn-fit (c .before .before .loop .inv) (c .before .loop-test .taken), omega (arith, c .before .before .loop .inv .long, c .before .before .before .before .before .before .before .before .before .before .before .before .pre .1 .1)))
+      (omega (arith, c .before .before .before .before .before .before .before .before .before .before .before .before .before .pre .0, y .entry .low, y .entry .inside, tape-le (y .entry .inner)), (turn-fit (c .before .before .loop .inv) (c .before .loop-test .taken), omega (arith, c .before .before .loop .inv .long, c .before .before .before .before .before .before .before .before .before .before .before .before .before .pre .1 .1)))
+
+  arrange-content-same-length-2 : arrange-content-lts.Need-same-length-2 (arrange-content-calls t) (arrange-content-at t) arrange-content.Post arrange-content-Inv-loop arrange-content-μ-loop
+  arrange-content-same-length-2 c = c .before .before .before .arrange-element .kept .1 .1 .1 .1 .1 .1 .1 .0 ∙ c .before .before .before .before .before .before .loop .inv .long
+
+  arrange-content-returns-3 : arrange-content-lts.Need-returns-3 (arrange-content-calls t) (arrange-content-at t) arrange-content.Post arrange-content-Inv-loop arrange-content-μ-loop
+  arrange-content-returns-3 c = progress-twice (c .before .before .before .before .before .before .loop .inv) (c .before .before .before .before .before .loop-test .taken) (c .before .before .before .arrange-element .ensures) (c .if3 .taken)
 
   arrange-content-add-j : arrange-content-lts.Need-add-j (arrange-content-calls t) (arrange-content-at t) arrange-content.Post arrange-content-Inv-loop arrange-content-μ-loop
-  arrange-content-add-j c = omega (arith, inside (c .before .before .before .before))
+  arrange-content-add-j c = omega (arith, inside (c .before .before .before .before .before))
 
   arrange-content-loop-less : arrange-content-lts.Need-loop-less (arrange-content-calls t) (arrange-content-at t) arrange-content.Post arrange-content-Inv-loop arrange-content-μ-loop
-  arrange-content-loop-less c = omega (arith, c .before .before .before .before .loop-test .taken)
+  arrange-content-loop-less c = omega (arith, c .before .before .before .before .before .loop-test .taken)
 
   arrange-content-loop-again : arrange-content-lts.Need-loop-again (arrange-content-calls t) (arrange-content-at t) arrange-content.Post arrange-content-Inv-loop arrange-content-μ-loop
   arrange-content-loop-again c =
-      let z = element-size (turn-fit (c .before .before .before .before .before .loop .inv) (c .before .before .before .before .loop-test .taken)) (c .before .before .arrange-element .ensures) in
-      let h = c .before .before .arrange-element .kept .1 .1 .1 .1 .1 .1 .1 .0 in
-      progress-more (c .before .before .before .before .before .loop .inv) (c .before .before .before .before .loop-test .taken) (c .before .before .arrange-element .ensures) h (omega (arith, z .0, z .1, h, c .before .before .before .before .before .loop .inv .long, c .before .before .before .before .before .before .before .before .before .before .before .before .before .before .before .pre .1 .1))
+      let z = element-size (turn-fit (c .before .before .before .before .before .before .loop .inv) (c .before .before .before .before .before .loop-test .taken)) (c .before .before .before .arrange-element .ensures .built (c .if3 .left)) in
+      let h = c .before .before .before .arrange-element .kept .1 .1 .1 .1 .1 .1 .1 .0 in
+      progress-more (c .before .before .before .before .before .before .loop .inv) (c .before .before .before .before .before .loop-test .taken) (c .before .before .before .arrange-element .ensures) (c .if3 .left) h (omega (arith, z .0, z .1, h, c .before .before .before .before .before .before .loop .inv .long, c .before .before .before .before .before .before .before .before .before .before .before .before .before .before .before .before .before .pre .1 .1))
 
-  arrange-content-same-length-2 : arrange-content-lts.Need-same-length-2 (arrange-content-calls t) (arrange-content-at t) arrange-content.Post arrange-content-Inv-loop arrange-content-μ-loop
-  arrange-content-same-length-2 c = c .before .loop .inv .long
+  arrange-content-same-length-3 : arrange-content-lts.Need-same-length-3 (arrange-content-calls t) (arrange-content-at t) arrange-content.Post arrange-content-Inv-loop arrange-content-μ-loop
+  arrange-content-same-length-3 c = c .before .loop .inv .long
 
-  arrange-content-returns-2 : arrange-content-lts.Need-returns-2 (arrange-content-calls t) (arrange-content-at t) arrange-content.Post arrange-content-Inv-loop arrange-content-μ-loop
-  arrange-content-returns-2 c = progress-done (c .before .loop .inv) (c .loop-test .left)
+  arrange-content-returns-4 : arrange-content-lts.Need-returns-4 (arrange-content-calls t) (arrange-content-at t) arrange-content.Post arrange-content-Inv-loop arrange-content-μ-loop
+  arrange-content-returns-4 c = progress-done (c .before .loop .inv) (c .loop-test .left)
 
 module _ (t : ℕ) where
   own : (c : arrange-element-lts.After-child (arrange-element-calls t) (arrange-element-at t) arrange-element.Post) → OfPlace (c .before .before .before .before .before .before .before .args .text .now) (c .before .before .before .before .before .before .before .args .table .now) (c .before .before .before .before .before .before .before .args .n) (c .before .before .before .before .before .before .before .args .place)
@@ -148,8 +155,8 @@ module _ (t : ℕ) where
   mid-length : (c : arrange-element-lts.After-arrange-content (arrange-element-calls t) (arrange-element-at t) arrange-element.Post) → length (c .arrange-content .last .1 .1 .1 .1 .1 .1 .1 .1 .0) ≡ length (c .before .before .before .before .before .before .before .before .before .before .args .out .now)
   mid-length c = c .arrange-content .kept .1 .1 .1 .1 .1 .1 .1 .1 .0 ∙ simp length-set
 
-  ends : (c : arrange-element-lts.After-arrange-content (arrange-element-calls t) (arrange-element-at t) arrange-element.Post) → c .arrange-content .result ≤ 512
-  ends c = element-end (c .before .before .before .before .before .before .before .before .before .before .pre .1 .0) (own-place (c .before .before .before)) (rw (c .before .before .before .before .view-at .ensures) at (c .arrange-content .ensures))
+  ends : (c : arrange-element-lts.Else1 (arrange-element-calls t) (arrange-element-at t) arrange-element.Post) → c .before .before .before .arrange-content .result ≤ 512
+  ends c = element-end (c .before .before .before .before .before .before .before .before .before .before .before .before .before .pre .1 .0) (own-place (c .before .before .before .before .before .before)) ((rw (c .before .before .before .before .before .before .before .view-at .ensures) at (c .before .before .before .arrange-content .ensures)) .built (c .if1 .left))
 
   arrange-element-view-at-requires : arrange-element-lts.Need-view-at-requires (arrange-element-calls t) (arrange-element-at t) arrange-element.Post
   arrange-element-view-at-requires c κs = c .before .before .before .before .before .pre .1 .0 .node .held
@@ -186,32 +193,38 @@ module _ (t : ℕ) where
   arrange-element-arrange-content-requires c κs = rw (c .before .before .before .view-at .ensures)
       (omega (arith, c .before .before .before .before .before .before .before .before .before .pre .0, tape-le (c .before .before .before .before .before .before .before .before .before .pre .1 .0 .tape)), (fit-kids (c .before .before .before .before .before .before .before .before .before .pre .1 .0) (own-place (c .before .before)), simp length-set (c .before .before .before .before .before .before .before .before .before .pre .1 .1)))
 
-  arrange-element-cast-out : arrange-element-lts.Need-cast-out (arrange-element-calls t) (arrange-element-at t) arrange-element.Post
-  arrange-element-cast-out c = omega (arith, ends (c .before .before))
-
-  arrange-element-mul-out-5 : arrange-element-lts.Need-mul-out-5 (arrange-element-calls t) (arrange-element-at t) arrange-element.Post
-  arrange-element-mul-out-5 c = omega (arith, c .before .before .before .before .before .before .before .before .before .before .before .before .pre .1 .0 .fits)
-
-  arrange-element-add-out : arrange-element-lts.Need-add-out (arrange-element-calls t) (arrange-element-at t) arrange-element.Post
-  arrange-element-add-out c = omega (arith, c .before .before .before .before .before .before .before .before .before .before .before .before .pre .1 .0 .fits)
-
-  arrange-element-mul-out-6 : arrange-element-lts.Need-mul-out-6 (arrange-element-calls t) (arrange-element-at t) arrange-element.Post
-  arrange-element-mul-out-6 c = omega (arith, c .before .before .before .before .before .before .before .before .before .before .before .before .pre .1 .0 .fits)
-
-  arrange-element-slice-write-out-2 : arrange-element-lts.Need-slice-write-out-2 (arrange-element-calls t) (arrange-element-at t) arrange-element.Post
-  arrange-element-slice-write-out-2 c = omega (arith, c .before .before .before .before .before .before .before .before .before .before .before .before .pre .1 .0 .fits, c .before .before .before .before .before .before .before .before .before .before .before .before .pre .1 .1, mid-length (c .before .before))
-
   arrange-element-same-length : arrange-element-lts.Need-same-length (arrange-element-calls t) (arrange-element-at t) arrange-element.Post
-  arrange-element-same-length c = simp length-set (mid-length (c .before .before))
+  arrange-element-same-length c = mid-length (c .before .before .before)
 
   arrange-element-returns : arrange-element-lts.Need-returns (arrange-element-calls t) (arrange-element-at t) arrange-element.Post
-  arrange-element-returns c =
-      let l = mid-length (c .before .before) in
-      element-built (c .before .before .before .before .before .before .before .before .before .before .before .before .args .out .now) (c .before .before .before .before .before .before .before .before .before .before .before .before .args .m) (c .before .before .arrange-content .last .1 .1 .1 .1 .1 .1 .1 .1 .0) (c .before .before .arrange-content .result) (own (c .before .before .before .before .before))
-      (rw (c .before .before .before .before .before .before .view-at .ensures) at (c .before .before .arrange-content .ensures)) l (omega (arith, l, ends (c .before .before), c .before .before .before .before .before .before .before .before .before .before .before .before .pre .1 .1)) (omega (arith, c .before .before .before .before .before .before .before .before .before .before .before .before .pre .1 .0 .fits, c .before .before .before .before .before .before .before .before .before .before .before .before .pre .1 .1))
+  arrange-element-returns c = element-twice (own (c .before .before .before .before .before .before)) (rw (c .before .before .before .before .before .before .before .view-at .ensures) at (c .before .before .before .arrange-content .ensures)) (c .if1 .taken)
+
+  arrange-element-cast-out : arrange-element-lts.Need-cast-out (arrange-element-calls t) (arrange-element-at t) arrange-element.Post
+  arrange-element-cast-out c = omega (arith, ends c)
+
+  arrange-element-mul-out-5 : arrange-element-lts.Need-mul-out-5 (arrange-element-calls t) (arrange-element-at t) arrange-element.Post
+  arrange-element-mul-out-5 c = omega (arith, c .before .before .before .before .before .before .before .before .before .before .before .before .before .pre .1 .0 .fits)
+
+  arrange-element-add-out : arrange-element-lts.Need-add-out (arrange-element-calls t) (arrange-element-at t) arrange-element.Post
+  arrange-element-add-out c = omega (arith, c .before .before .before .before .before .before .before .before .before .before .before .before .before .pre .1 .0 .fits)
+
+  arrange-element-mul-out-6 : arrange-element-lts.Need-mul-out-6 (arrange-element-calls t) (arrange-element-at t) arrange-element.Post
+  arrange-element-mul-out-6 c = omega (arith, c .before .before .before .before .before .before .before .before .before .before .before .before .before .pre .1 .0 .fits)
+
+  arrange-element-slice-write-out-2 : arrange-element-lts.Need-slice-write-out-2 (arrange-element-calls t) (arrange-element-at t) arrange-element.Post
+  arrange-element-slice-write-out-2 c = omega (arith, c .before .before .before .before .before .before .before .before .before .before .before .before .before .pre .1 .0 .fits, c .before .before .before .before .before .before .before .before .before .before .before .before .before .pre .1 .1, mid-length (c .before .before .before))
+
+  arrange-element-same-length-2 : arrange-element-lts.Need-same-length-2 (arrange-element-calls t) (arrange-element-at t) arrange-element.Post
+  arrange-element-same-length-2 c = simp length-set (mid-length (c .before .before .before))
+
+  arrange-element-returns-2 : arrange-element-lts.Need-returns-2 (arrange-element-calls t) (arrange-element-at t) arrange-element.Post
+  arrange-element-returns-2 c =
+      let l = mid-length (c .before .before .before) in
+      element-arranged (c .before .before .before .before .before .before .before .before .before .before .before .before .before .args .out .now) (c .before .before .before .before .before .before .before .before .before .before .before .before .before .args .m) (c .before .before .before .arrange-content .last .1 .1 .1 .1 .1 .1 .1 .1 .0) (c .before .before .before .arrange-content .result) (own (c .before .before .before .before .before .before))
+      (rw (c .before .before .before .before .before .before .before .view-at .ensures) at (c .before .before .before .arrange-content .ensures)) (c .if1 .left) l (omega (arith, l, ends c, c .before .before .before .before .before .before .before .before .before .before .before .before .before .pre .1 .1)) (omega (arith, c .before .before .before .before .before .before .before .before .before .before .before .before .before .pre .1 .0 .fits, c .before .before .before .before .before .before .before .before .before .before .before .before .before .pre .1 .1))
 
 pub +arrange-content+arrange-element-spec : {M : Type 1} → statement M
 +arrange-content+arrange-element-spec =
     close μ-arrange-content μ-arrange-element
-    (λ t. arrange-content-lts.spec (arrange-content-calls t) (arrange-content-at t) arrange-content.Post arrange-content-Inv-loop arrange-content-μ-loop (arrange-content-is-above-requires t) (arrange-content-copy-requires t) (arrange-content-same-length t) (arrange-content-returns t) (arrange-content-order-in-requires t) (arrange-content-loop-holds t) (arrange-content-mul-p t) (arrange-content-array-read-p t) (arrange-content-cast-p t) (arrange-content-arrange-element-requires t) (arrange-content-add-j t) (arrange-content-loop-less t) (arrange-content-loop-again t) (arrange-content-same-length-2 t) (arrange-content-returns-2 t))
-    (λ t. arrange-element-lts.spec (arrange-element-calls t) (arrange-element-at t) arrange-element.Post (arrange-element-view-at-requires t) (arrange-element-child-requires t) (arrange-element-mul-out t) (arrange-element-mul-out-2 t) (arrange-element-shared-slice-read-out t) (arrange-element-mul-out-3 t) (arrange-element-mul-out-4 t) (arrange-element-slice-write-out t) (arrange-element-add-arrange-content t) (arrange-element-add-arrange-content-2 t) (arrange-element-arrange-content-requires t) (arrange-element-cast-out t) (arrange-element-mul-out-5 t) (arrange-element-add-out t) (arrange-element-mul-out-6 t) (arrange-element-slice-write-out-2 t) (arrange-element-same-length t) (arrange-element-returns t))
+    (λ t. arrange-content-lts.spec (arrange-content-calls t) (arrange-content-at t) arrange-content.Post arrange-content-Inv-loop arrange-content-μ-loop (arrange-content-is-above-requires t) (arrange-content-copy-requires t) (arrange-content-same-length t) (arrange-content-returns t) (arrange-content-order-in-requires t) (arrange-content-returns-2 t) (arrange-content-loop-holds t) (arrange-content-mul-p t) (arrange-content-array-read-p t) (arrange-content-cast-p t) (arrange-content-arrange-element-requires t) (arrange-content-same-length-2 t) (arrange-content-returns-3 t) (arrange-content-add-j t) (arrange-content-loop-less t) (arrange-content-loop-again t) (arrange-content-same-length-3 t) (arrange-content-returns-4 t))
+    (λ t. arrange-element-lts.spec (arrange-element-calls t) (arrange-element-at t) arrange-element.Post (arrange-element-view-at-requires t) (arrange-element-child-requires t) (arrange-element-mul-out t) (arrange-element-mul-out-2 t) (arrange-element-shared-slice-read-out t) (arrange-element-mul-out-3 t) (arrange-element-mul-out-4 t) (arrange-element-slice-write-out t) (arrange-element-add-arrange-content t) (arrange-element-add-arrange-content-2 t) (arrange-element-arrange-content-requires t) (arrange-element-same-length t) (arrange-element-returns t) (arrange-element-cast-out t) (arrange-element-mul-out-5 t) (arrange-element-add-out t) (arrange-element-mul-out-6 t) (arrange-element-slice-write-out-2 t) (arrange-element-same-length-2 t) (arrange-element-returns-2 t))

@@ -14,7 +14,7 @@ slice-aggregate-same-bytes : tie.Need-slice-aggregate-same-bytes
 slice-aggregate-same-bytes c = search needs
 
 same-bytes-requires : tie.Need-same-bytes-requires
-same-bytes-requires c κs = search needs
+same-bytes-requires c κs = record { le₁ = search needs; in₁ = search needs; le₂ = search needs; in₂ = search needs }
 
 returns : tie.Need-returns
 returns c = λ ns r. sym (ap (λ (b : Bool). b || any (same (84 ∷ [])) ns) (sym (c .before .same-bytes .ensures) ∙ c .if1 .taken))

@@ -37,7 +37,7 @@ slice-aggregate-same-bytes : tie.Need-slice-aggregate-same-bytes
 slice-aggregate-same-bytes c = search needs
 
 same-bytes-requires : tie.Need-same-bytes-requires
-same-bytes-requires c κs = let b = name-bounds (read-line (c .before .before .before .context .given .1) (c .before .before .before .before .before .line-at .ensures)) in (b .0, b .1, omega arith, omega arith)
+same-bytes-requires c κs = let b = name-bounds (read-line (c .before .before .before .context .given .1) (c .before .before .before .before .before .line-at .ensures)) in record { le₁ = b .0; in₁ = b .1; le₂ = omega arith; in₂ = omega arith }
 
 returns-3 : tie.Need-returns-3
 returns-3 c = first-T (read-notation (not-false (c .before .before .before .before .before .before .before .before .before .in-notation .result) (c .before .before .before .before .before .before .before .before .if1 .left)) (c .before .before .before .before .before .before .before .before .before .in-notation .ensures)) (read-line (c .before .before .before .before .before .context .given .1) (c .before .before .before .before .before .before .before .line-at .ensures)) (c .before .same-bytes .ensures) (c .if3 .taken)

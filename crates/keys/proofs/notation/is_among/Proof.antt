@@ -37,7 +37,7 @@ add-same-bytes-3 : tie.Need-add-same-bytes-3 Inv-loop μ-loop
 add-same-bytes-3 c = omega (arith, rowed-fits (c .before .before .loop .inv .0) (c .before .loop-test .taken) (c .name-len .ensures))
 
 same-bytes-requires : tie.Need-same-bytes-requires Inv-loop μ-loop
-same-bytes-requires c κs = let f = rowed-fits (c .before .before .loop .inv .0) (c .before .loop-test .taken) (c .name-len .ensures) in (c .before .before .before .before .before .pre .1, c .before .before .before .before .before .pre .2, omega arith, omega arith)
+same-bytes-requires c κs = let f = rowed-fits (c .before .before .loop .inv .0) (c .before .loop-test .taken) (c .name-len .ensures) in record { le₁ = c .before .before .before .before .before .pre .1; in₁ = c .before .before .before .before .before .pre .2; le₂ = omega arith; in₂ = omega arith }
 
 returns : tie.Need-returns Inv-loop μ-loop
 returns c = among-found (slice (c .before .before .before .before .before .before .before .args .a) (c .before .before .before .before .before .before .before .args .e) (c .before .before .before .before .before .before .before .args .word .now)) (c .before .before .before .before .loop .inv .1) (c .before .before .before .loop-test .taken) (c .before .before .name-len .ensures) (sym (c .before .same-bytes .ensures) ∙ c .if1 .taken)

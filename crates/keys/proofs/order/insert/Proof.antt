@@ -1,21 +1,20 @@
 -- `insert` meets its contract: the entries passed are one further.
-use Prim.Native.Nat.{_≤_}
+use Prim.Native.Nat.{_-_, _≤_}
 use native.Mathlib.Omega.{arith}
-use mathlib.Core.Path.{_≡_}
-use Rattle.keys.specs.Entries.{Shifted, shifted-none, shifted-more, shifted-put}
+use mathlib.Core.Path.{_≡_, _∙_, ap}
+use lib.ListN.{getD, set}
+use Rattle.keys.specs.Entries.{shiftedTo, shifted-none, shifted-more, shifted-put}
 use Rattle.keys.proofs.order.insert.Statement.{statement}
 use Rattle.keys.proofs.order.insert.Tie as tie
-use Rattle.keys.proofs.order.insert.Reads as reads
-use Rattle.keys.proofs.order.insert.Lts as lts
 
 abbrev Inv-loop : tie.InvT-loop
-Inv-loop order₀ k j p i₀ order i = (j ≤ i) × (i ≤ k) × Shifted order₀ k i order
+Inv-loop order₀ k j p i₀ order i = (j ≤ i) × (i ≤ k) × (order ≡ shiftedTo k i order₀)
 
 abbrev μ-loop : tie.MeasureT-loop
 μ-loop order₀ k j p i₀ order i = i
 
 loop-holds : tie.Need-loop-holds Inv-loop μ-loop
-loop-holds c = (c .pre .0, omega arith, shifted-none (c .args .order .now) (c .args .k) (c .pre .3))
+loop-holds c = (c .pre .0, omega arith, shifted-none (c .args .order .now) (c .args .k) (omega (arith, c .pre .1, c .pre .3)))
 
 sub-order : tie.Need-sub-order Inv-loop μ-loop
 sub-order c = omega arith
@@ -39,7 +38,12 @@ loop-less : tie.Need-loop-less Inv-loop μ-loop
 loop-less c = omega (arith, c .before .loop-test .taken)
 
 loop-again : tie.Need-loop-again Inv-loop μ-loop
-loop-again c = (omega (arith, c .before .loop-test .taken), omega (arith, c .before .before .loop .inv .1), shifted-more (c .before .before .loop .inv .2) (omega (arith, c .before .loop-test .taken)) (omega (arith, c .before .before .loop .inv .1, c .before .before .before .pre .1)))
+loop-again c = (
+  omega (arith, c .before .loop-test .taken),
+  omega (arith, c .before .before .loop .inv .1),
+  ap (λ x. set x (c .before .before .loop .i) (getD x (c .before .before .loop .i - 1) 0)) (c .before .before .loop .inv .2)
+      ∙ shifted-more (c .before .before .before .args .order .now) (c .before .before .before .args .k) (omega (arith, c .before .before .before .pre .1, c .before .before .before .pre .3)) (c .before .before .loop .i) (omega (arith, c .before .loop-test .taken)) (c .before .before .loop .inv .1),
+)
 
 cast-order : tie.Need-cast-order Inv-loop μ-loop
 cast-order c = omega (arith, c .before .before .pre .2)
@@ -53,7 +57,8 @@ element-write-order-2 c = omega (arith, c .before .before .pre .0, c .before .be
 returns : tie.Need-returns Inv-loop μ-loop
 returns c =
     let e : c .before .loop .i ≡ c .before .before .args .j = omega (arith, c .before .loop .inv .0, c .loop-test .left) in
-    shifted-put (c .before .before .args .p) (rw e at (c .before .loop .inv .2)) (omega (arith, c .before .before .pre .0, c .before .before .pre .1))
+    ap (λ x. set x (c .before .before .args .j) (c .before .before .args .p)) (c .before .loop .inv .2 ∙ ap (λ y. shiftedTo (c .before .before .args .k) y (c .before .before .args .order .now)) e)
+    ∙ shifted-put (c .before .before .args .order .now) (c .before .before .args .k) (omega (arith, c .before .before .pre .1, c .before .before .pre .3)) (c .before .before .args .j) (c .before .before .args .p) (c .before .before .pre .0)
 
 pub insert-spec : {M : Type 1} → statement M
 insert-spec =

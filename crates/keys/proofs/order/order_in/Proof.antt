@@ -11,7 +11,7 @@ use Rattle.keys.specs.Labelled.{Labelled}
 use Rattle.keys.specs.Checked.{Checked, checked-next, checked-here}
 use Rattle.keys.specs.Walks.{parted}
 use Rattle.keys.specs.Siblings.{inOrder}
-use Rattle.keys.specs.Entries.{AllEntries, inserted-all}
+use Rattle.keys.specs.Entries.{AllEntries, Inserted, inserted, inserted-all}
 use Rattle.keys.specs.Gathering.{Gathering, gathering-start, gathering-skip, gathering-room, gathering-twice, gathering-more, gathering-done}
 use Rattle.keys.proofs.order.order_in.Statement.{statement}
 use Rattle.keys.proofs.order.order_in.Tie as tie
@@ -46,6 +46,10 @@ room c =
 
 held : (c : lts.After-loop calls reads.Pre reads.Post Inv-loop μ-loop) → Gathering (c .before .before .before .before .before .before .pre .0 .keyList) (c .before .before .before .before .before .before .pre .0 .path) (c .before .before .before .before .before .before .args .src .now) (c .before .before .before .before .before .before .args .tape .now) (c .before .before .before .before .before .before .args .lo) (c .before .before .before .before .before .before .args .hi) (c .before .loop .order) (c .before .before .before .before .before .before .pre .0 .forest) (c .before .loop .p) (c .before .loop .k)
 held c = let g = c .before .before .before .before .before .before .pre .0 in c .before .loop .inv .4 (g .keyList) (g .path) (g .tabled) (g .place-is) (g .forest) (g .tape)
+
+-- the entries with one more among them
+put : (c : lts.After-insert calls reads.Pre reads.Post Inv-loop μ-loop) → Inserted (c .before .before .before .before .before .before .before .before .before .loop .order) (c .before .before .before .before .before .before .before .before .before .loop .k) (c .before .before .before .rank-of .result) (c .before .before .before .before .before .before .before .before .before .loop .p) (c .insert .last .0)
+put c = inserted (c .insert .ensures) (c .before .before .before .before .before .before .before .before .before .loop .inv .2) (c .before .before .before .rank-of .ensures .inside (c .before .before .if2 .left)) (room (c .before .before .before .before .before))
 
 loop-holds : tie.Need-loop-holds Inv-loop μ-loop
 loop-holds c = (omega arith, c .before .before .before .before .pre .0, c .before .before .before .before .pre .2, λ i l. absurd (omega arith), λ K q t e f h. gathering-start (c .before .before .before .before .args .order .now) h (c .before .before .before .before .pre .1 f h))
@@ -84,14 +88,14 @@ loop-again : tie.Need-loop-again Inv-loop μ-loop
 loop-again c = rw (c .before .before .before .before .before .before .before .view-at .ensures) (
   omega (arith, turn (c .before .before .before .before .before .before .before .before) .forward, c .before .before .before .before .before .before .before .before .before .loop .inv .0),
   checked-next (c .before .before .before .before .before .before .before .before .before .loop .inv .1) (c .before .before .before .before .before .before .before .before .loop-test .taken),
-  c .insert .ensures .long,
-  inserted-all (c .insert .ensures) (c .before .before .before .rank-of .ensures .inside (c .before .before .if2 .left)) (Labelled (c .before .before .before .before .before .before .before .before .before .before .before .before .before .before .args .text .now) (c .before .before .before .before .before .before .before .before .before .before .before .before .before .before .args .table .now) (c .before .before .before .before .before .before .before .before .before .before .before .before .before .before .args .n) (c .before .before .before .before .before .before .before .before .before .before .before .before .before .before .args .place) (c .before .before .before .before .before .before .before .before .before .before .before .before .before .before .args .src .now) (c .before .before .before .before .before .before .before .before .before .before .before .before .before .before .args .tape .now)) (c .before .before .before .before .before .before .before .before .before .loop .inv .3)
+  put c .long,
+  inserted-all (put c) (c .before .before .before .rank-of .ensures .inside (c .before .before .if2 .left)) (Labelled (c .before .before .before .before .before .before .before .before .before .before .before .before .before .before .args .text .now) (c .before .before .before .before .before .before .before .before .before .before .before .before .before .before .args .table .now) (c .before .before .before .before .before .before .before .before .before .before .before .before .before .before .args .n) (c .before .before .before .before .before .before .before .before .before .before .before .before .before .before .args .place) (c .before .before .before .before .before .before .before .before .before .before .before .before .before .before .args .src .now) (c .before .before .before .before .before .before .before .before .before .before .before .before .before .before .args .tape .now)) (c .before .before .before .before .before .before .before .before .before .loop .inv .3)
       (checked-here (c .before .before .before .before .before .before .before .before .before .loop .inv .1) (c .before .before .before .before .before .before .before .before .loop-test .taken) (kind (c .before .before .before .before .before))),
   λ K q t e f h.
       let x = c .before .before .before .before .before .before .before .before .before .loop .inv .4 K q t e f h in
       let y = parted (x .tape) (c .before .before .before .before .before .before .before .before .loop-test .taken) (kind (c .before .before .before .before .before)) in
       gathering-more x y (c .before .before .before .rank-of .ensures .rank K q t e (y .name) (y .kids) (y .node) (y .inner) (c .before .before .before .before .before .before .before .before .before .before .before .before .before .before .args .lo) (c .before .before .before .before .before .before .before .before .before .before .before .before .before .before .args .hi) (inOrder K q (x .passed)) (x .lists)) (c .before .before .if2 .left)
-      (c .insert .ensures) (c .before .before .before .before .before .before .before .before .before .loop .inv .0) (turn (c .before .before .before .before .before .before .before .before) .inside),
+      (put c) (c .before .before .before .before .before .before .before .before .before .loop .inv .0) (turn (c .before .before .before .before .before .before .before .before) .inside),
 )
 
 loop-less-2 : tie.Need-loop-less-2 Inv-loop μ-loop

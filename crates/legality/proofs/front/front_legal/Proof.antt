@@ -17,7 +17,7 @@ branches-legal-requires : tie.Need-branches-legal-requires
 branches-legal-requires c κs = search needs
 
 returns-2 : tie.Need-returns-2
-returns-2 c f t x o e = c .branches-legal .ensures f x ∙ front-timed (c .before .before .before .before .before .before .before .args .n) t (setOf (c .before .before .before .before .before .before .before .args .times .words)) (c .before .before .before .before .before .before .before .pre .1) o e x (c .before .before .before .before .if1 .left) (rw (c .before .before .before .view-at .ensures) at (c .before .if2 .taken))
+returns-2 c f t x o e = c .branches-legal .ensures f x o ∙ front-timed (c .before .before .before .before .before .before .before .args .n) t (setOf (c .before .before .before .before .before .before .before .args .times .words)) (c .before .before .before .before .before .before .before .pre .1) o e x (c .before .before .before .before .if1 .left) (rw (c .before .before .before .view-at .ensures) at (c .before .if2 .taken))
 
 is-untimed-requires : tie.Need-is-untimed-requires
 is-untimed-requires c κs = search needs

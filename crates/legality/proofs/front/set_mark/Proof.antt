@@ -1,6 +1,9 @@
 -- `front::set_mark` meets its contract. Assumes nothing.
+use Prim.Native.Nat.{_%_}
+use native.Mathlib.Omega.{arith}
+use lib.ListN.{length-set}
 use borrow.Author.Needs.{needs}
-use Rattle.legality.specs.Seen.{seen-set}
+use Rattle.timestamp.specs.Words.{with-set}
 use Rattle.legality.proofs.front.set_mark.Statement.{statement}
 use Rattle.legality.proofs.front.set_mark.Tie as tie
 
@@ -23,7 +26,7 @@ element-write-seen : tie.Need-element-write-seen
 element-write-seen c = search needs
 
 returns : tie.Need-returns
-returns c = seen-set (c .before .args .seen .now) (c .before .args .m) (c .before .pre)
+returns c = (with-set (c .before .args .seen .now) (c .before .args .m % 16384) (omega arith), simp length-set (c .before .pre))
 
 pub set-mark-spec : {M : Type 1} → statement M
 set-mark-spec =

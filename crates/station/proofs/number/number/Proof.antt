@@ -11,7 +11,7 @@ use Rattle.station.proofs.number.number.Tie as tie
 use Rattle.station.proofs.number.number.Reads as reads
 use Rattle.station.proofs.number.number.Lts as lts
 use Rattle.station.proofs.number.digit.Reads as digit-reads
-use Rattle.station.proofs.number.least.Reads as least-reads
+use Rattle.xml.proofs.writer.least.Reads as least-reads
 
 abbrev Inv-loop : tie.InvT-loop
 Inv-loop word value₀ i₀ value i = (i ≤ length word) × (value ≤ 1000) × (numberFrom value (drop i word) ≡ numberOf word)
@@ -19,47 +19,36 @@ Inv-loop word value₀ i₀ value i = (i ≤ length word) × (value ≤ 1000) ×
 abbrev μ-loop : tie.MeasureT-loop
 μ-loop word value₀ i₀ value i = length word - i
 
--- src/number.rt:37:9
 returns : tie.Need-returns Inv-loop μ-loop
 returns c = number-empty _ (search needs)
 
--- src/number.rt:44:5
 loop-holds : tie.Need-loop-holds Inv-loop μ-loop
 loop-holds c = (search needs, search needs, number-start _ (c .if1 .left))
 
--- src/number.rt:45:23
 shared-slice-read-digit : tie.Need-shared-slice-read-digit Inv-loop μ-loop
 shared-slice-read-digit c = search needs
 
--- src/number.rt:45:13
 digit-requires : tie.Need-digit-requires Inv-loop μ-loop
 digit-requires c κs = search needs
 
--- src/number.rt:47:13
 returns-2 : tie.Need-returns-2 Inv-loop μ-loop
 returns-2 c = sym (number-stop (c .before .before .before .before .before .before .before .args .word .now) (c .before .before .before .before .loop .value) (c .before .before .before .before .loop .i) (search needs) (subst (λ d. 9 < d) (c .before .digit .ensures .0) (c .if2 .taken))) ∙ c .before .before .before .before .loop .inv .2
 
--- src/number.rt:52:23
 mul-least : tie.Need-mul-least Inv-loop μ-loop
 mul-least c = search needs
 
--- src/number.rt:52:23
 add-least : tie.Need-add-least Inv-loop μ-loop
 add-least c = search needs
 
--- src/number.rt:52:9
 least-requires : tie.Need-least-requires Inv-loop μ-loop
 least-requires c κs = search needs
 
--- src/number.rt:53:9
 add-i : tie.Need-add-i Inv-loop μ-loop
 add-i c = search needs
 
--- src/number.rt:44:5
 loop-less : tie.Need-loop-less Inv-loop μ-loop
 loop-less c = search needs
 
--- src/number.rt:44:5
 loop-again : tie.Need-loop-again Inv-loop μ-loop
 loop-again c = (
   search needs,
@@ -68,7 +57,6 @@ loop-again c = (
       ∙ sym (number-step (c .before .before .before .before .before .before .before .before .args .word .now) (c .before .before .before .before .before .loop .value) (c .before .before .before .before .before .loop .i) (search needs) (subst (λ d. d ≤ 9) (c .before .before .digit .ensures .0) (c .before .if2 .left)))) ∙ c .before .before .before .before .before .loop .inv .2,
 )
 
--- src/number.rt:33:1
 returns-3 : tie.Need-returns-3 Inv-loop μ-loop
 returns-3 c = sym (number-end (c .before .before .before .before .args .word .now) (c .before .loop .value) (c .before .loop .i) (search needs)) ∙ c .before .loop .inv .2
 

@@ -1,6 +1,9 @@
 -- `timestamp::Timestamp::with` meets its contract.
-use Rattle.timestamp.specs.Words.{with-set}
+use mathlib.Core.Path.{_≡_}
+use native.Mathlib.Omega.{arith}
+use lib.ListN.{length}
 use borrow.Author.Needs.{needs}
+use Rattle.timestamp.specs.Words.{with-set}
 use Rattle.timestamp.proofs.Timestamp.with.Statement.{statement}
 use Rattle.timestamp.proofs.Timestamp.with.Tie as tie
 
@@ -20,7 +23,9 @@ element-write-self : tie.Need-element-write-self
 element-write-self c = search needs
 
 returns : tie.Need-returns
-returns c = with-set (c .before .args .t1 .words) (c .before .args .v) (search needs) (search needs)
+returns c =
+    let e : length (c .before .args .t1 .words) ≡ 16 = search needs in
+    with-set (c .before .args .t1 .words) (c .before .args .v) (omega arith)
 
 pub with-spec : {M : Type 1} → statement M
 with-spec =

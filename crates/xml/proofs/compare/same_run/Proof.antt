@@ -28,7 +28,7 @@ right c =
     (sign-means (c .before .before .before .before .before .before .before .args .src2 .now) (c .before .before .before .before .loop .j) (c .before .before .before .before .before .before .before .args .e2) (omega arith) (c .before .before .before .before .before .before .before .pre .in₂))
 
 loop-holds : tie.Need-loop-holds Inv-loop μ-loop
-loop-holds c = (omega arith, omega arith, refl)
+loop-holds c = (c .before .before .pre .le₁, c .before .before .pre .le₂, refl)
 
 returns : tie.Need-returns Inv-loop μ-loop
 returns c =
@@ -45,11 +45,22 @@ sign-at-requires-2 c κs = (omega arith, c .before .before .before .before .befo
 returns-2 : tie.Need-returns-2 Inv-loop μ-loop
 returns-2 c = sym (c .before .before .before .before .before .before .before .loop .inv .2 ∙ run-other (left (c .before .before .before .before)) (right (c .before .before .before)) (c .if2 .taken))
 
+alike-len-requires : tie.Need-alike-len-requires Inv-loop μ-loop
+alike-len-requires c κs = record { le₁ = left (c .before .before .before .before) .inside; in₁ = c .before .before .before .before .before .before .before .before .before .before .pre .in₁; le₂ = right (c .before .before .before) .inside; in₂ = c .before .before .before .before .before .before .before .before .before .before .pre .in₂ }
+
+add-i : tie.Need-add-i Inv-loop μ-loop
+add-i c = omega (arith, c .before .alike-len .ensures .in₁, c .before .before .before .before .before .before .before .before .before .before .before .before .pre .in₁)
+
+add-j : tie.Need-add-j Inv-loop μ-loop
+add-j c = omega (arith, c .before .before .alike-len .ensures .in₂, c .before .before .before .before .before .before .before .before .before .before .before .before .before .pre .in₂)
+
 loop-less : tie.Need-loop-less Inv-loop μ-loop
-loop-less c = omega (arith, left (c .before .before .before .before) .forward, left (c .before .before .before .before) .inside)
+loop-less c = omega (arith, c .before .before .alike-len .ensures .in₁, left (c .before .before .before .before .before .before .before) .forward, left (c .before .before .before .before .before .before .before) .inside)
 
 loop-again : tie.Need-loop-again Inv-loop μ-loop
-loop-again c = (left (c .before .before .before .before) .inside, right (c .before .before .before) .inside, c .before .before .before .before .before .before .before .loop .inv .2 ∙ run-more (left (c .before .before .before .before)) (right (c .before .before .before)) (c .if2 .left))
+loop-again c =
+    let o = c .before .before .alike-len .ensures in
+    (o .in₁, o .in₂, c .before .before .before .before .before .before .before .before .before .before .loop .inv .2 ∙ run-more (left (c .before .before .before .before .before .before .before)) (right (c .before .before .before .before .before .before)) (c .before .before .before .if2 .left) ∙ o .means)
 
 returns-3 : tie.Need-returns-3 Inv-loop μ-loop
 returns-3 c =
@@ -68,6 +79,9 @@ same-run-spec =
     sign-at-requires
     sign-at-requires-2
     returns-2
+    alike-len-requires
+    add-i
+    add-j
     loop-less
     loop-again
     returns-3)

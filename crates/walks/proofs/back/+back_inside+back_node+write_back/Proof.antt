@@ -1,0 +1,289 @@
+-- `walks::back::write_back`, `back_inside` and `back_node` meet their contracts: siblings by a loop, depth by recursion. Each node has
+-- 163,840 bytes of room.
+use Prim.Native.Nat.{ℕ, _+_, _*_, _-_, _%_, _<_, _≤_}
+use native.Mathlib.Omega.{arith}
+use mathlib.Core.Path.{_≡_, sym, _∙_}
+use borrow.Author.Needs.{needs}
+use Rattle.xml.specs.Forest.{Forest}
+use Rattle.xml.specs.Tape.{headAt, nextAt, Tape}
+use Rattle.xml.specs.TapeLaws.{Front, OneRun, bytesAt, front, one-run, tape-le}
+use Rattle.timestamp.specs.Times.{Times}
+use Rattle.timestamp.specs.Set.{setOf}
+use Rattle.timestamp.specs.Listed.{listed}
+use Rattle.versions.specs.Rendered.{Going, node-part, open-room, going-none, going-more, going-done, going-length, text-renders, element-renders}
+use Rattle.versions.specs.Timely.{Timely, CutTo, timely-first, timely-rest, timely-inside, timely-text}
+use Rattle.versions.specs.BackText.{backText, back-pieces, back-length, times-room, back-dropped, back-bare, back-wrapped}
+use borrow.Fn.Kinds.{In}
+use borrow.Fn.PlainCycle.{Measures, is, falls, and}
+use Rattle.walks.proofs.back.back_inside.Reads as back-inside
+use Rattle.walks.proofs.back.back_inside.Kinds as back-inside-kinds
+use Rattle.walks.proofs.back.+back_inside+back_node+write_back.Lts-back_inside as back-inside-lts
+use Rattle.walks.proofs.back.back_node.Reads as back-node
+use Rattle.walks.proofs.back.back_node.Kinds as back-node-kinds
+use Rattle.walks.proofs.back.+back_inside+back_node+write_back.Lts-back_node as back-node-lts
+use Rattle.walks.proofs.back.write_back.Reads as write-back
+use Rattle.walks.proofs.back.write_back.Kinds as write-back-kinds
+use Rattle.walks.proofs.back.+back_inside+back_node+write_back.Lts-write_back as write-back-lts
+use Rattle.walks.proofs.back.put_cut.Reads as put-cut-reads
+use Rattle.walks.proofs.back.times_to.Reads as times-to-reads
+use Rattle.timestamp.proofs.Timestamp.is_empty.Reads as is-empty-reads
+use Rattle.timestamp.proofs.Timestamp.same.Reads as same-reads
+use Rattle.xml.proofs.tape.is_run.Reads as is-run-reads
+use Rattle.xml.proofs.tape.view_at.Reads as view-at-reads
+use Rattle.xml.proofs.writer.put_close.Reads as put-close-reads
+use Rattle.xml.proofs.writer.put_open.Reads as put-open-reads
+use Rattle.xml.proofs.writer.put_text.Reads as put-text-reads
+use Rattle.walks.proofs.back.+back_inside+back_node+write_back.{statement}
+use Rattle.walks.proofs.back.+back_inside+back_node+write_back.Tie.{close}
+
+abbrev μ-back-inside : Measures 3 back-inside-kinds.ps ℕ
+μ-back-inside κs a = 3 * (a .1 .1 .1 .0 - a .1 .1 .0) + 2
+
+abbrev μ-back-node : Measures 3 back-node-kinds.ps ℕ
+μ-back-node κs a = 3 * (nextAt (a .1 .0 .now) (a .1 .1 .0) - a .1 .1 .0)
+
+abbrev μ-write-back : Measures 3 write-back-kinds.ps ℕ
+μ-write-back κs a = 3 * (a .1 .1 .1 .0 - a .1 .1 .0) + 1
+
+abbrev back-inside-at : ℕ → In 3 back-inside-kinds.ps
+back-inside-at t = and 3 back-inside-kinds.ps (is 3 back-inside-kinds.ps μ-back-inside t) back-inside.Pre
+
+abbrev back-inside-below : ℕ → In 3 back-inside-kinds.ps
+back-inside-below t = and 3 back-inside-kinds.ps (falls 3 back-inside-kinds.ps _<_ μ-back-inside t) back-inside.Pre
+
+abbrev back-node-at : ℕ → In 3 back-node-kinds.ps
+back-node-at t = and 3 back-node-kinds.ps (is 3 back-node-kinds.ps μ-back-node t) back-node.Pre
+
+abbrev back-node-below : ℕ → In 3 back-node-kinds.ps
+back-node-below t = and 3 back-node-kinds.ps (falls 3 back-node-kinds.ps _<_ μ-back-node t) back-node.Pre
+
+abbrev write-back-at : ℕ → In 3 write-back-kinds.ps
+write-back-at t = and 3 write-back-kinds.ps (is 3 write-back-kinds.ps μ-write-back t) write-back.Pre
+
+abbrev write-back-below : ℕ → In 3 write-back-kinds.ps
+write-back-below t = and 3 write-back-kinds.ps (falls 3 write-back-kinds.ps _<_ μ-write-back t) write-back.Pre
+
+abbrev back-inside-calls : ℕ → back-inside-lts.Claims
+back-inside-calls t = (is-run-reads.Asked, is-run-reads.Learnt, view-at-reads.Asked, view-at-reads.Learnt, put-text-reads.Asked, put-text-reads.Learnt, write-back-below t, write-back.Post)
+
+abbrev back-node-calls : ℕ → back-node-lts.Claims
+back-node-calls t = (view-at-reads.Asked, view-at-reads.Learnt, put-text-reads.Asked, put-text-reads.Learnt, put-open-reads.Asked, put-open-reads.Learnt, back-inside-below t, back-inside.Post, put-close-reads.Asked, put-close-reads.Learnt, times-to-reads.Asked, times-to-reads.Learnt, is-empty-reads.Asked, is-empty-reads.Learnt, same-reads.Asked, same-reads.Learnt, put-cut-reads.Asked, put-cut-reads.Learnt)
+
+abbrev write-back-calls : ℕ → write-back-lts.Claims
+write-back-calls t = (back-node-below t, back-node.Post, view-at-reads.Asked, view-at-reads.Learnt)
+
+abbrev write-back-Inv-loop : write-back-lts.InvT-loop
+write-back-Inv-loop src tape lo hi i around out₀ at p₀ to₀ out p to =
+    (lo ≤ p) × Timely i src tape p hi × (to + 163840 * (hi - p) ≤ at + 163840 * (hi - lo))
+    × ((f : Forest) → Tape src tape lo hi f → Going (backText i (listed i (setOf (around .words)))) src tape p hi (backText i (listed i (setOf (around .words))) f) out₀ at to out)
+
+abbrev write-back-μ-loop : write-back-lts.MeasureT-loop
+write-back-μ-loop src tape lo hi i around out₀ at p₀ to₀ out p to = hi - p
+
+module _ (t : ℕ) where
+  inside-run : (c : back-inside-lts.Then1 (back-inside-calls t) (back-inside-at t) back-inside.Post) → OneRun (c .before .before .before .before .before .args .src .now) (c .before .before .before .before .before .args .tape .now) (c .before .before .before .before .before .args .lo) (c .before .before .before .before .before .args .hi)
+  inside-run c = one-run (c .before .before .before .before .before .pre .1 .0 .tape) (sym (c .before .is-run .ensures) ∙ c .if1 .taken)
+
+  back-inside-is-run-requires : back-inside-lts.Need-is-run-requires (back-inside-calls t) (back-inside-at t) back-inside.Post
+  back-inside-is-run-requires c κs = let x = c .before .before .before .pre .1 .0 .tape in (tape-le x, λ l. front x l .held)
+
+  back-inside-view-at-requires : back-inside-lts.Need-view-at-requires (back-inside-calls t) (back-inside-at t) back-inside.Post
+  back-inside-view-at-requires c κs = inside-run c .node .held
+
+  back-inside-put-text-requires : back-inside-lts.Need-put-text-requires (back-inside-calls t) (back-inside-at t) back-inside.Post
+  back-inside-put-text-requires c κs = rw (c .before .view-at .ensures) (omega (arith, inside-run (c .before .before) .node .within, c .before .before .before .before .before .before .before .pre .1 .2))
+
+  back-inside-same-length : back-inside-lts.Need-same-length (back-inside-calls t) (back-inside-at t) back-inside.Post
+  back-inside-same-length c = search needs
+
+  back-inside-returns : back-inside-lts.Need-returns (back-inside-calls t) (back-inside-at t) back-inside.Post
+  back-inside-returns c f h =
+      let o = inside-run (c .before .before .before .before .before) in
+      text-renders (back-pieces (c .before .before .before .before .before .before .before .before .before .before .args .i) (listed (c .before .before .before .before .before .before .before .before .before .before .args .i) (setOf (c .before .before .before .before .before .before .before .before .before .before .args .around .words)))) (o .node .forward) (o .run) (rw (c .before .before .before .before .view-at .ensures) at (c .before .before .put-text .ensures)) f (rw (o .ends) at h)
+
+  back-inside-write-back-requires : back-inside-lts.Need-write-back-requires (back-inside-calls t) (back-inside-at t) back-inside.Post
+  back-inside-write-back-requires c κs = (omega (arith, c .before .before .before .before .before .before .pre .0), c .before .before .before .before .before .before .pre .1)
+
+  back-inside-same-length-2 : back-inside-lts.Need-same-length-2 (back-inside-calls t) (back-inside-at t) back-inside.Post
+  back-inside-same-length-2 c = search needs
+
+  back-inside-returns-2 : back-inside-lts.Need-returns-2 (back-inside-calls t) (back-inside-at t) back-inside.Post
+  back-inside-returns-2 c = c .before .before .write-back .ensures
+
+module _ (t : ℕ) where
+  here : (c : back-node-lts.Start (back-node-calls t) (back-node-at t) back-node.Post) → Front (c .args .src .now) (c .args .tape .now) (c .args .p) (nextAt (c .args .tape .now) (c .args .p))
+  here c = front (c .pre .1 .1 .tape) (c .pre .1 .0)
+
+  low : (c : back-node-lts.Start (back-node-calls t) (back-node-at t) back-node.Post) → c .args .i ≤ 999
+  low c = omega (arith, c .pre .1 .1 .reach, c .pre .1 .1 .small)
+
+  abbrev around : (c : back-node-lts.Start (back-node-calls t) (back-node-at t) back-node.Post) → Times
+  around c = listed (c .args .i) (setOf (c .args .around .words))
+
+  times : (c : back-node-lts.Else2 (back-node-calls t) (back-node-at t) back-node.Post) → headAt (c .before .before .before .before .before .before .before .before .args .tape .now) (c .before .before .before .before .before .before .before .before .args .p) % 4 ≡ 2
+  times c =
+      let v = c .before .before .before .before .view-at .ensures in
+      omega (arith, rw v at (c .before .before .if1 .left), rw v at (c .if2 .left), here (c .before .before .before .before .before .before .before .before) .kind)
+
+  held : (c : back-node-lts.After-times-to (back-node-calls t) (back-node-at t) back-node.Post)
+      → CutTo (c .before .before .before .before .before .before .before .before .before .before .args .i) (bytesAt (c .before .before .before .before .before .before .before .before .before .before .args .src .now) (c .before .before .before .before .before .before .before .before .before .before .args .tape .now) (c .before .before .before .before .before .before .before .before .before .before .args .p)) (c .times-to .result .stamp .words) (c .times-to .result .whole)
+  held c = rw (c .before .before .before .before .before .before .view-at .ensures, node-part (c .before .before .before .before .before .before .before .before .before .before .args .src .now) (c .before .before .before .before .before .before .before .before .before .before .args .tape .now) (c .before .before .before .before .before .before .before .before .before .before .args .p)) at (c .times-to .ensures)
+
+  back-node-view-at-requires : back-node-lts.Need-view-at-requires (back-node-calls t) (back-node-at t) back-node.Post
+  back-node-view-at-requires c κs = here (c .before .before .before) .held
+
+  back-node-put-text-requires : back-node-lts.Need-put-text-requires (back-node-calls t) (back-node-at t) back-node.Post
+  back-node-put-text-requires c κs = rw (c .before .before .before .view-at .ensures) (omega (arith, here (c .before .before .before .before .before .before .before) .within, c .before .before .before .before .before .before .before .pre .1 .3))
+
+  back-node-same-length : back-node-lts.Need-same-length (back-node-calls t) (back-node-at t) back-node.Post
+  back-node-same-length c = search needs
+
+  back-node-returns : back-node-lts.Need-returns (back-node-calls t) (back-node-at t) back-node.Post
+  back-node-returns c =
+      let v = c .before .before .before .before .before .before .view-at .ensures in
+      text-renders (back-pieces (c .before .before .before .before .before .before .before .before .before .before .args .i) (around (c .before .before .before .before .before .before .before .before .before .before))) (c .before .before .before .before .before .before .before .before .before .before .pre .1 .0) (rw v at (c .before .before .before .before .if1 .taken)) (rw v at (c .before .before .put-text .ensures))
+
+  back-node-put-open-requires : back-node-lts.Need-put-open-requires (back-node-calls t) (back-node-at t) back-node.Post
+  back-node-put-open-requires c κs = rw (c .before .before .before .before .before .view-at .ensures) (omega (arith, here (c .before .before .before .before .before .before .before .before .before) .within, c .before .before .before .before .before .before .before .before .before .pre .1 .3))
+
+  back-node-add-back-inside : back-node-lts.Need-add-back-inside (back-node-calls t) (back-node-at t) back-node.Post
+  back-node-add-back-inside c = omega (arith, here (c .before .before .before .before .before .before .before .before .before .before .before .before) .held)
+
+  back-node-back-inside-requires : back-node-lts.Need-back-inside-requires (back-node-calls t) (back-node-at t) back-node.Post
+  back-node-back-inside-requires c κs =
+      let v = c .before .before .before .before .before .before .before .before .before .view-at .ensures in
+      let k = rw v at (c .before .before .before .before .before .before .before .if1 .left) in
+      let o = open-room (here (c .before .before .before .before .before .before .before .before .before .before .before .before .before)) (rw v at (c .before .before .before .put-open .ensures)) in
+      rw v (omega (arith, c .before .before .before .before .before .before .before .before .before .before .before .before .before .pre .0, c .before .before .before .before .before .before .before .before .before .before .before .before .before .pre .1 .0), (timely-inside (c .before .before .before .before .before .before .before .before .before .before .before .before .before .pre .1 .1) (c .before .before .before .before .before .before .before .before .before .before .before .before .before .pre .1 .0) k, c .before .before .before .before .before .before .before .before .before .before .before .before .before .pre .1 .2, omega (arith, c .before .before .before .before .before .before .before .before .before .before .before .before .before .pre .1 .3, c .before .before .before .before .before .before .before .before .before .before .before .before .before .pre .1 .0)))
+
+  back-node-put-close-requires : back-node-lts.Need-put-close-requires (back-node-calls t) (back-node-at t) back-node.Post
+  back-node-put-close-requires c κs =
+      let v = c .before .before .before .before .before .before .before .before .before .before .before .before .before .view-at .ensures in
+      let x = timely-inside (c .before .before .before .before .before .before .before .before .before .before .before .before .before .before .before .before .before .pre .1 .1) (c .before .before .before .before .before .before .before .before .before .before .before .before .before .before .before .before .before .pre .1 .0) (rw v at (c .before .before .before .before .before .before .before .before .before .before .before .if1 .left)) in
+      let k = rw v at (c .before .before .before .back-inside .ensures) in
+      let o = open-room (here (c .before .before .before .before .before .before .before .before .before .before .before .before .before .before .before .before .before)) (rw v at (c .before .before .before .before .before .before .before .put-open .ensures)) in
+      rw v (omega (arith, here (c .before .before .before .before .before .before .before .before .before .before .before .before .before .before .before .before .before) .within, k (x .forest) (x .tape) .place, back-length (c .before .before .before .before .before .before .before .before .before .before .before .before .before .before .before .before .before .args .i) (around (c .before .before .before .before .before .before .before .before .before .before .before .before .before .before .before .before .before)) x, c .before .before .before .before .before .before .before .before .before .before .before .before .before .before .before .before .before .pre .1 .3, c .before .before .before .before .before .before .before .before .before .before .before .before .before .before .before .before .before .pre .1 .0))
+
+  back-node-same-length-2 : back-node-lts.Need-same-length-2 (back-node-calls t) (back-node-at t) back-node.Post
+  back-node-same-length-2 c = search needs
+
+  back-node-returns-2 : back-node-lts.Need-returns-2 (back-node-calls t) (back-node-at t) back-node.Post
+  back-node-returns-2 c =
+      let v = c .before .before .before .before .before .before .before .before .before .before .before .before .before .before .before .before .view-at .ensures in
+      element-renders (back-pieces (c .before .before .before .before .before .before .before .before .before .before .before .before .before .before .before .before .before .before .before .before .args .i) (around (c .before .before .before .before .before .before .before .before .before .before .before .before .before .before .before .before .before .before .before .before))) (c .before .before .before .before .before .before .before .before .before .before .before .before .before .before .before .before .before .before .before .before .pre .1 .0) (rw v at (c .before .before .before .before .before .before .before .before .before .before .before .before .if2 .taken)) (rw v at (c .before .before .before .before .before .before .before .before .before .before .put-open .ensures)) (rw v at (c .before .before .before .before .before .before .back-inside .ensures)) (rw v at (c .before .before .put-close .ensures))
+
+  back-node-sub-times-to : back-node-lts.Need-sub-times-to (back-node-calls t) (back-node-at t) back-node.Post
+  back-node-sub-times-to c = rw (c .before .before .before .before .view-at .ensures) (omega arith)
+
+  back-node-part-times-to-start : back-node-lts.Need-part-times-to-start (back-node-calls t) (back-node-at t) back-node.Post
+  back-node-part-times-to-start c = rw (c .before .before .before .before .view-at .ensures) (omega arith)
+
+  back-node-part-times-to-end : back-node-lts.Need-part-times-to-end (back-node-calls t) (back-node-at t) back-node.Post
+  back-node-part-times-to-end c = rw (c .before .before .before .before .view-at .ensures) (omega (arith, here (c .before .before .before .before .before .before .before .before) .within))
+
+  back-node-times-to-requires : back-node-lts.Need-times-to-requires (back-node-calls t) (back-node-at t) back-node.Post
+  back-node-times-to-requires c κs =
+      rw (c .before .before .before .before .before .view-at .ensures, node-part (c .before .before .before .before .before .before .before .before .before .args .src .now) (c .before .before .before .before .before .before .before .before .before .args .tape .now) (c .before .before .before .before .before .before .before .before .before .args .p)) (low (c .before .before .before .before .before .before .before .before .before), timely-text (c .before .before .before .before .before .before .before .before .before .pre .1 .1) (c .before .before .before .before .before .before .before .before .before .pre .1 .0) (times (c .before)))
+
+  back-node-is-empty-requires : back-node-lts.Need-is-empty-requires (back-node-calls t) (back-node-at t) back-node.Post
+  back-node-is-empty-requires c κs = search needs
+
+  back-node-returns-3 : back-node-lts.Need-returns-3 (back-node-calls t) (back-node-at t) back-node.Post
+  back-node-returns-3 c =
+      let u = held (c .before .before .before) in
+      back-dropped (c .before .before .before .before .before .before .before .before .before .before .before .before .before .args .i) (setOf (c .before .before .before .before .before .before .before .before .before .before .before .before .before .args .around .words)) (setOf (c .before .before .before .times-to .result .stamp .words)) (low (c .before .before .before .before .before .before .before .before .before .before .before .before .before)) (c .before .before .before .before .before .before .before .before .before .before .before .before .before .pre .1 .2) (u .only) (c .before .before .before .before .before .before .before .before .before .before .before .before .before .pre .1 .0) (times (c .before .before .before .before .before)) (u .listed-is) (sym (c .before .is-empty .ensures) ∙ c .if3 .taken)
+
+  back-node-same-requires : back-node-lts.Need-same-requires (back-node-calls t) (back-node-at t) back-node.Post
+  back-node-same-requires c κs = search needs
+
+  back-node-add-back-inside-2 : back-node-lts.Need-add-back-inside-2 (back-node-calls t) (back-node-at t) back-node.Post
+  back-node-add-back-inside-2 c = omega (arith, here (c .before .before .before .before .before .before .before .before .before .before .before .before .before .before .before) .held)
+
+  back-node-back-inside-requires-2 : back-node-lts.Need-back-inside-requires-2 (back-node-calls t) (back-node-at t) back-node.Post
+  back-node-back-inside-requires-2 c κs =
+      let v = c .before .before .before .before .before .before .before .before .before .before .before .before .view-at .ensures in
+      let k = rw v at (c .before .before .before .before .before .before .before .before .before .before .if1 .left) in
+      rw v (omega (arith, c .before .before .before .before .before .before .before .before .before .before .before .before .before .before .before .before .pre .0, c .before .before .before .before .before .before .before .before .before .before .before .before .before .before .before .before .pre .1 .0), (timely-inside (c .before .before .before .before .before .before .before .before .before .before .before .before .before .before .before .before .pre .1 .1) (c .before .before .before .before .before .before .before .before .before .before .before .before .before .before .before .before .pre .1 .0) k, held (c .before .before .before .before .before .before) .only, omega (arith, c .before .before .before .before .before .before .before .before .before .before .before .before .before .before .before .before .pre .1 .3, c .before .before .before .before .before .before .before .before .before .before .before .before .before .before .before .before .pre .1 .0)))
+
+  back-node-same-length-3 : back-node-lts.Need-same-length-3 (back-node-calls t) (back-node-at t) back-node.Post
+  back-node-same-length-3 c = search needs
+
+  back-node-returns-4 : back-node-lts.Need-returns-4 (back-node-calls t) (back-node-at t) back-node.Post
+  back-node-returns-4 c =
+      let u = held (c .before .before .before .before .before .before .before .before .before) in
+      back-bare (c .before .before .before .before .before .before .before .before .before .before .before .before .before .before .before .before .before .before .before .args .i) (setOf (c .before .before .before .before .before .before .before .before .before .before .before .before .before .before .before .before .before .before .before .args .around .words)) (setOf (c .before .before .before .before .before .before .before .before .before .times-to .result .stamp .words)) (low (c .before .before .before .before .before .before .before .before .before .before .before .before .before .before .before .before .before .before .before)) (c .before .before .before .before .before .before .before .before .before .before .before .before .before .before .before .before .before .before .before .pre .1 .2) (u .only) (c .before .before .before .before .before .before .before .before .before .before .before .before .before .before .before .before .before .before .before .pre .1 .0) (times (c .before .before .before .before .before .before .before .before .before .before .before)) (u .listed-is)
+      (sym (c .before .before .before .before .before .before .before .is-empty .ensures) ∙ c .before .before .before .before .before .before .if3 .left) (sym (c .before .before .before .before .before .same .ensures) ∙ c .before .before .before .before .if4 .taken) (rw (c .before .before .before .before .before .before .before .before .before .before .before .before .before .before .before .view-at .ensures) at (c .before .before .back-inside2 .ensures))
+
+  back-node-put-cut-requires : back-node-lts.Need-put-cut-requires (back-node-calls t) (back-node-at t) back-node.Post
+  back-node-put-cut-requires c κs =
+      let h = here (c .before .before .before .before .before .before .before .before .before .before .before .before .before .before .before .before) .within in
+      rw (c .before .before .before .before .before .before .before .before .before .before .before .before .view-at .ensures) (omega (arith, h), omega (arith, h), omega (arith, h), omega (arith, c .before .before .before .before .before .before .before .before .before .before .before .before .before .before .before .before .pre .1 .3), held (c .before .before .before .before .before .before) .text-is)
+
+  back-node-add-back-inside-3 : back-node-lts.Need-add-back-inside-3 (back-node-calls t) (back-node-at t) back-node.Post
+  back-node-add-back-inside-3 c = omega (arith, here (c .before .before .before .before .before .before .before .before .before .before .before .before .before .before .before .before .before .before .before) .held, c .before .before .before .before .before .before .before .before .before .before .before .before .before .before .before .before .before .before .before .good, c .before .before .before .before .before .before .before .before .before .before .before .before .before .before .before .before .before .before .before .fits)
+
+  back-node-back-inside-requires-3 : back-node-lts.Need-back-inside-requires-3 (back-node-calls t) (back-node-at t) back-node.Post
+  back-node-back-inside-requires-3 c κs =
+      let v = c .before .before .before .before .before .before .before .before .before .before .before .before .before .before .before .before .view-at .ensures in
+      let k = rw v at (c .before .before .before .before .before .before .before .before .before .before .before .before .before .before .if1 .left) in
+      let o = times-room (setOf (c .before .before .before .before .before .before .before .before .before .before .times-to .result .stamp .words)) (c .before .before .before .put-cut .ensures) in
+      rw v (omega (arith, c .before .before .before .before .before .before .before .before .before .before .before .before .before .before .before .before .before .before .before .before .pre .0, c .before .before .before .before .before .before .before .before .before .before .before .before .before .before .before .before .before .before .before .before .pre .1 .0), (timely-inside (c .before .before .before .before .before .before .before .before .before .before .before .before .before .before .before .before .before .before .before .before .pre .1 .1) (c .before .before .before .before .before .before .before .before .before .before .before .before .before .before .before .before .before .before .before .before .pre .1 .0) k, held (c .before .before .before .before .before .before .before .before .before .before) .only, omega (arith, c .before .before .before .before .before .before .before .before .before .before .before .before .before .before .before .before .before .before .before .before .pre .1 .3, c .before .before .before .before .before .before .before .before .before .before .before .before .before .before .before .before .before .before .before .before .pre .1 .0)))
+
+  back-node-put-close-requires-2 : back-node-lts.Need-put-close-requires-2 (back-node-calls t) (back-node-at t) back-node.Post
+  back-node-put-close-requires-2 c κs =
+      let v = c .before .before .before .before .before .before .before .before .before .before .before .before .before .before .before .before .before .before .before .before .view-at .ensures in
+      let x = timely-inside (c .before .before .before .before .before .before .before .before .before .before .before .before .before .before .before .before .before .before .before .before .before .before .before .before .pre .1 .1) (c .before .before .before .before .before .before .before .before .before .before .before .before .before .before .before .before .before .before .before .before .before .before .before .before .pre .1 .0) (rw v at (c .before .before .before .before .before .before .before .before .before .before .before .before .before .before .before .before .before .before .if1 .left)) in
+      let k = rw v at (c .before .before .before .back-inside3 .ensures) in
+      let o = times-room (setOf (c .before .before .before .before .before .before .before .before .before .before .before .before .before .before .times-to .result .stamp .words)) (c .before .before .before .before .before .before .before .put-cut .ensures) in
+      rw v (omega (arith, here (c .before .before .before .before .before .before .before .before .before .before .before .before .before .before .before .before .before .before .before .before .before .before .before .before) .within, k (x .forest) (x .tape) .place, back-length (c .before .before .before .before .before .before .before .before .before .before .before .before .before .before .before .before .before .before .before .before .before .before .before .before .args .i) (listed (c .before .before .before .before .before .before .before .before .before .before .before .before .before .before .before .before .before .before .before .before .before .before .before .before .args .i) (setOf (c .before .before .before .before .before .before .before .before .before .before .before .before .before .before .times-to .result .stamp .words))) x, c .before .before .before .before .before .before .before .before .before .before .before .before .before .before .before .before .before .before .before .before .before .before .before .before .pre .1 .3, c .before .before .before .before .before .before .before .before .before .before .before .before .before .before .before .before .before .before .before .before .before .before .before .before .pre .1 .0))
+
+  back-node-same-length-4 : back-node-lts.Need-same-length-4 (back-node-calls t) (back-node-at t) back-node.Post
+  back-node-same-length-4 c = search needs
+
+  back-node-returns-5 : back-node-lts.Need-returns-5 (back-node-calls t) (back-node-at t) back-node.Post
+  back-node-returns-5 c =
+      let u = held (c .before .before .before .before .before .before .before .before .before .before .before .before .before .before .before .before .before) in
+      let v = c .before .before .before .before .before .before .before .before .before .before .before .before .before .before .before .before .before .before .before .before .before .before .before .view-at .ensures in
+      back-wrapped (c .before .before .before .before .before .before .before .before .before .before .before .before .before .before .before .before .before .before .before .before .before .before .before .before .before .before .before .args .i) (setOf (c .before .before .before .before .before .before .before .before .before .before .before .before .before .before .before .before .before .before .before .before .before .before .before .before .before .before .before .args .around .words)) (setOf (c .before .before .before .before .before .before .before .before .before .before .before .before .before .before .before .before .before .times-to .result .stamp .words)) (low (c .before .before .before .before .before .before .before .before .before .before .before .before .before .before .before .before .before .before .before .before .before .before .before .before .before .before .before)) (c .before .before .before .before .before .before .before .before .before .before .before .before .before .before .before .before .before .before .before .before .before .before .before .before .before .before .before .pre .1 .2) (u .only) (c .before .before .before .before .before .before .before .before .before .before .before .before .before .before .before .before .before .before .before .before .before .before .before .before .before .before .before .pre .1 .0) (times (c .before .before .before .before .before .before .before .before .before .before .before .before .before .before .before .before .before .before .before)) (u .listed-is)
+      (sym (c .before .before .before .before .before .before .before .before .before .before .before .before .before .before .before .is-empty .ensures) ∙ c .before .before .before .before .before .before .before .before .before .before .before .before .before .before .if3 .left) (sym (c .before .before .before .before .before .before .before .before .before .before .before .before .before .same .ensures) ∙ c .before .before .before .before .before .before .before .before .before .before .before .before .if4 .left) (c .before .before .before .before .before .before .before .before .before .before .put-cut .ensures) (rw v at (c .before .before .before .before .before .before .back-inside3 .ensures)) (rw v at (c .before .before .put-close2 .ensures))
+
+module _ (t : ℕ) where
+  turn : (c : write-back-lts.In-loop (write-back-calls t) (write-back-at t) write-back.Post write-back-Inv-loop write-back-μ-loop) → Front (c .before .before .before .before .before .args .src .now) (c .before .before .before .before .before .args .tape .now) (c .before .loop .p) (c .before .before .before .before .before .args .hi)
+  turn c = front (c .before .loop .inv .1 .tape) (c .loop-test .taken)
+
+  write-back-loop-holds : write-back-lts.Need-loop-holds (write-back-calls t) (write-back-at t) write-back.Post write-back-Inv-loop write-back-μ-loop
+  write-back-loop-holds c = (omega arith, c .before .before .before .pre .1 .0, omega arith, λ f h. going-none h)
+
+  write-back-back-node-requires : write-back-lts.Need-back-node-requires (write-back-calls t) (write-back-at t) write-back.Post write-back-Inv-loop write-back-μ-loop
+  write-back-back-node-requires c κs =
+      let s = turn (c .before) in
+      let i = c .before .before .loop .inv in
+      (omega (arith, s .forward, s .inside, i .0, c .before .before .before .before .before .before .pre .0), (s .forward, timely-first (i .1) (c .before .loop-test .taken), c .before .before .before .before .before .before .pre .1 .1, omega (arith, s .forward, s .inside, i .2, c .before .before .before .before .before .before .pre .1 .2)))
+
+  write-back-view-at-requires : write-back-lts.Need-view-at-requires (write-back-calls t) (write-back-at t) write-back.Post write-back-Inv-loop write-back-μ-loop
+  write-back-view-at-requires c κs = turn (c .before .before .before .before) .held
+
+  write-back-loop-less : write-back-lts.Need-loop-less (write-back-calls t) (write-back-at t) write-back.Post write-back-Inv-loop write-back-μ-loop
+  write-back-loop-less c = let s = turn (c .before .before .before .before .before) in rw (c .view-at .ensures) (omega (arith, s .forward, s .inside))
+
+  write-back-loop-again : write-back-lts.Need-loop-again (write-back-calls t) (write-back-at t) write-back.Post write-back-Inv-loop write-back-μ-loop
+  write-back-loop-again c =
+      let s = turn (c .before .before .before .before .before) in
+      let i = c .before .before .before .before .before .before .loop .inv in
+      let x = timely-first (i .1) (c .before .before .before .before .before .loop-test .taken) in
+      let w = c .before .before .before .back-node .ensures in
+      let z = listed (c .before .before .before .before .before .before .before .before .before .before .args .i) (setOf (c .before .before .before .before .before .before .before .before .before .before .args .around .words)) in
+      rw (c .view-at .ensures) (omega (arith, s .forward, i .0), timely-rest (i .1) (c .before .before .before .before .before .loop-test .taken), omega (arith, s .forward, s .inside, i .2, w (x .forest) (x .tape) .place, back-length (c .before .before .before .before .before .before .before .before .before .before .args .i) z x), λ f h. going-more (back-pieces (c .before .before .before .before .before .before .before .before .before .before .args .i) z) (i .3 f h) (c .before .before .before .before .before .loop-test .taken) w)
+
+  write-back-same-length : write-back-lts.Need-same-length (write-back-calls t) (write-back-at t) write-back.Post write-back-Inv-loop write-back-μ-loop
+  write-back-same-length c = going-length (c .before .loop .inv .3 (c .before .before .before .before .before .pre .1 .0 .forest) (c .before .before .before .before .before .pre .1 .0 .tape))
+
+  write-back-returns : write-back-lts.Need-returns (write-back-calls t) (write-back-at t) write-back.Post write-back-Inv-loop write-back-μ-loop
+  write-back-returns c f h = going-done (back-pieces (c .before .before .before .before .before .args .i) (listed (c .before .before .before .before .before .args .i) (setOf (c .before .before .before .before .before .args .around .words)))) (c .before .loop .inv .3 f h) (c .loop-test .left)
+
+pub +back-inside+back-node+write-back-spec : {M : Type 1} → statement M
++back-inside+back-node+write-back-spec =
+    close μ-back-inside μ-back-node μ-write-back
+    (λ t. back-inside-lts.spec (back-inside-calls t) (back-inside-at t) back-inside.Post (back-inside-is-run-requires t) (back-inside-view-at-requires t) (back-inside-put-text-requires t) (back-inside-same-length t) (back-inside-returns t) (back-inside-write-back-requires t) (back-inside-same-length-2 t) (back-inside-returns-2 t))
+    (λ t. back-node-lts.spec (back-node-calls t) (back-node-at t) back-node.Post (back-node-view-at-requires t) (back-node-put-text-requires t) (back-node-same-length t) (back-node-returns t) (back-node-put-open-requires t) (back-node-add-back-inside t) (back-node-back-inside-requires t) (back-node-put-close-requires t) (back-node-same-length-2 t) (back-node-returns-2 t) (back-node-sub-times-to t) (back-node-part-times-to-start t) (back-node-part-times-to-end t) (back-node-times-to-requires t) (back-node-is-empty-requires t) (back-node-returns-3 t) (back-node-same-requires t) (back-node-add-back-inside-2 t) (back-node-back-inside-requires-2 t) (back-node-same-length-3 t) (back-node-returns-4 t) (back-node-put-cut-requires t) (back-node-add-back-inside-3 t) (back-node-back-inside-requires-3 t) (back-node-put-close-requires-2 t) (back-node-same-length-4 t) (back-node-returns-5 t))
+    (λ t. write-back-lts.spec (write-back-calls t) (write-back-at t) write-back.Post write-back-Inv-loop write-back-μ-loop (write-back-loop-holds t) (write-back-back-node-requires t) (write-back-view-at-requires t) (write-back-loop-less t) (write-back-loop-again t) (write-back-same-length t) (write-back-returns t))
