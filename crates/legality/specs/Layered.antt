@@ -138,7 +138,7 @@ module _ (n : ℕ) where
       (and-both (canonical n s) (ever v) (h1 .1) (h2 .1), within-inside v t (h3 .1), sole-layered v k (h1 .0) (siblings-layered K p v k (h5 .1)), siblings-layered K p t r (h7 .1), refl)
 
 -- ---- where a `T` has a version, so have those around it
-times-at : (n : ℕ) (s : Bytes) (i : ℕ) → i < n → getD (timesIn n s) i false ≡ belongs (suc i) s
+pub times-at : (n : ℕ) (s : Bytes) (i : ℕ) → i < n → getD (timesIn n s) i false ≡ belongs (suc i) s
 unfolding timesIn
 times-at n s i l = let e : 1 + i ≡ suc i = omega arith in getD-from (λ j. belongs j s) 1 n i l ∙ ap (λ (j : ℕ). belongs j s) e
 
@@ -191,7 +191,7 @@ layered-stops n w t (stamp s k r) d h =
     ∙ ap₂ (λ (x y : Bool). x || y) (layered-stops n true (timesIn n s) k d (h .2)) (layered-stops n w t r d (h .3)) ∙ sym (max-ltb d (depth k) (depth r))
 
 -- ---- no version is deeper, and some version is as deep
-depth-join : (f g : Forest) → depth (join f g) ≡ max (depth f) (depth g)
+pub depth-join : (f g : Forest) → depth (join f g) ≡ max (depth f) (depth g)
 unfolding depth join
 depth-join end g = omega arith
 depth-join (text b r) g = depth-join r g

@@ -2,7 +2,9 @@ pub mod Raised
 pub mod Measured
 pub mod Going
 pub mod Layered
+pub mod Parted
 pub mod SmallLaws
+pub mod Bounds
 pub mod Opened
 pub mod Seen
 pub mod Folded

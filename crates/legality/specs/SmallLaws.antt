@@ -48,7 +48,7 @@ not-both true y = refl
 not-both false y = refl
 
 -- what is within the limits, of a forest that is not too deep
-not-large : (f : Forest) → depth f ≤ 16 → not (tooLarge f) ≡ (leb (nodes f) 512 && leb (length (write f)) 16384)
+pub not-large : (f : Forest) → depth f ≤ 16 → not (tooLarge f) ≡ (leb (nodes f) 512 && leb (length (write f)) 16384)
 unfolding tooLarge
 not-large f h =
     rw (le-ltb 16 (depth f) h) (not-both (ltb 512 (nodes f)) (ltb 16384 (length (write f))) ∙ ap₂ (λ (x y : Bool). x && y) (not-less 512 (nodes f)) (not-less 16384 (length (write f))))

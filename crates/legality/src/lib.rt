@@ -1,4 +1,5 @@
 // Is a text a legal archive? It is read, and judged in one walk.
+mod bounds;
 pub mod front;
 pub mod legal;
 pub mod mark;

@@ -1,4 +1,5 @@
 // The sizes of every version in one walk: what a `T` holds itself, other `T`s apart, counts for each of its versions.
+use crate::bounds::bound;
 use xml::compare::same_bytes;
 use xml::compare::text_len;
 use xml::tape::is_run;
@@ -86,7 +87,7 @@ fn raise(src: &[u8], a: usize, e: usize, nodes: &mut [u32], bytes: &mut [u32], x
     raise_span(nodes, bytes, lo, n, x, y);
 }
 
-fn sized(nodes: u32, bytes: u32) -> Own
+pub(crate) fn sized(nodes: u32, bytes: u32) -> Own
     ensures { λ r. ⌜ r ≡ owned nodes bytes ⌝ }
 {
     Own {
@@ -96,7 +97,7 @@ fn sized(nodes: u32, bytes: u32) -> Own
     }
 }
 
-fn halted() -> Own
+pub(crate) fn halted() -> Own
     ensures { λ r. ⌜ r .stopped ≡ true ⌝ }
 {
     Own {
@@ -234,8 +235,8 @@ fn within_limits(nodes: &[u32], bytes: &[u32], x: u32, y: u32, n: usize) -> bool
     true
 }
 
-// Every version of an archive with the inside lo to hi is within the limits.
-pub fn all_small(src: &[u8], tape: &[u32], lo: usize, hi: usize, n: usize) -> bool
+// Every version of an archive with the inside lo to hi is within the limits, by the sizes of each.
+fn measure(src: &[u8], tape: &[u32], lo: usize, hi: usize, n: usize) -> bool
     requires { ⌜ LegalInside (now src) (now tape) lo hi n ⌝ }
     ensures { λ r. ⌜ ((f : Forest) → Tape (now (src .entry)) (now (tape .entry)) lo hi f → r ≡ allSmall n f) ⌝ }
 {
@@ -246,4 +247,21 @@ pub fn all_small(src: &[u8], tape: &[u32], lo: usize, hi: usize, n: usize) -> bo
         return false;
     }
     within_limits(&nodes, &bytes, own.nodes, own.bytes, n)
+}
+
+// Every version of an archive with the inside lo to hi is within the limits: mostly the bounds tell.
+pub fn all_small(src: &[u8], tape: &[u32], lo: usize, hi: usize, n: usize) -> bool
+    requires { ⌜ LegalInside (now src) (now tape) lo hi n ⌝ }
+    ensures { λ r. ⌜ ((f : Forest) → Tape (now (src .entry)) (now (tape .entry)) lo hi f → r ≡ allSmall n f) ⌝ }
+{
+    let most = bound(src, tape, lo, hi, 16);
+    if most.stopped {
+        return measure(src, tape, lo, hi, n);
+    }
+    if most.nodes <= 512 {
+        if most.bytes <= 16384 {
+            return true;
+        }
+    }
+    measure(src, tape, lo, hi, n)
 }

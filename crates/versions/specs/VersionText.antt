@@ -28,7 +28,7 @@ join-assoc (elem n k r) g h = ap (elem n k) (join-assoc r g h)
 join-assoc (stamp t k r) g h = ap (stamp t k) (join-assoc r g h)
 
 module _ (i : ℕ) where
-  pick-join : (f g : Forest) → pick i (join f g) ≡ join (pick i f) (pick i g)
+  pub pick-join : (f g : Forest) → pick i (join f g) ≡ join (pick i f) (pick i g)
   unfolding pick join
   pick-join end g = refl
   pick-join (text b r) g = ap (text b) (pick-join r g)

@@ -1,43 +1,32 @@
--- `archive::sizes::all_small` meets its contract, by the laws of SmallLaws.antt. Assumes nothing.
-use mathlib.Core.Path.{_∙_}
-use Rattle.legality.specs.SmallLaws.{inside-room, inside-stopped, inside-cells, inside-small}
+-- `legality::sizes::all_small` meets its contract. Assumes nothing.
+use Rattle.legality.specs.Bounds.{bounded-small}
 use borrow.Author.Needs.{needs}
 use Rattle.legality.proofs.sizes.all_small.Statement.{statement}
 use Rattle.legality.proofs.sizes.all_small.Tie as tie
+use Rattle.legality.proofs.sizes.all_small.Reads as reads
+use Rattle.legality.proofs.sizes.all_small.Lts as lts
+use Rattle.legality.proofs.bounds.bound.Reads as bound-reads
+use Rattle.legality.proofs.sizes.measure.Reads as measure-reads
 
-slice-aggregate-add-sizes : tie.Need-slice-aggregate-add-sizes
-slice-aggregate-add-sizes c = search needs
+bound-requires : tie.Need-bound-requires
+bound-requires c κs = (record { forest = c .before .before .pre .forest; tape = c .before .before .pre .tape }, c .before .before .pre .few)
 
-slice-aggregate-add-sizes-2 : tie.Need-slice-aggregate-add-sizes-2
-slice-aggregate-add-sizes-2 c = search needs
-
-add-sizes-requires : tie.Need-add-sizes-requires
-add-sizes-requires c κs = inside-room (c .before .before .before .before .pre)
+measure-requires : tie.Need-measure-requires
+measure-requires c κs = search needs
 
 returns : tie.Need-returns
-returns c = inside-stopped (c .before .before .before .before .before .before .before .before .pre) (c .before .before .before .add-sizes .ensures) (c .if1 .taken)
-
-slice-aggregate-within-limits : tie.Need-slice-aggregate-within-limits
-slice-aggregate-within-limits c = search needs
-
-slice-aggregate-within-limits-2 : tie.Need-slice-aggregate-within-limits-2
-slice-aggregate-within-limits-2 c = search needs
-
-within-limits-requires : tie.Need-within-limits-requires
-within-limits-requires c κs = let x = inside-cells (c .before .before .before .before .before .before .before .before .before .before .pre) (c .before .before .before .before .before .add-sizes .ensures) (c .before .before .if1 .left) in (x .0, x .1, c .before .before .before .before .before .before .before .before .before .before .pre .not-more)
+returns c = search needs
 
 returns-2 : tie.Need-returns-2
-returns-2 c f t = c .within-limits .ensures ∙ inside-small (c .before .before .before .before .before .before .before .before .before .before .before .pre) (c .before .before .before .before .before .before .add-sizes .ensures) (c .before .before .before .if1 .left) f t
+returns-2 c = bounded-small (c .before .before .before .before .before .before .before .before .pre) (c .before .before .before .before .before .bound .ensures (c .before .before .before .before .if1 .left)) (c .before .before .if2 .taken) (c .if3 .taken)
+
+measure-requires-2 : tie.Need-measure-requires-2
+measure-requires-2 c κs = search needs
+
+returns-3 : tie.Need-returns-3
+returns-3 c = search needs
 
 pub all-small-spec : {M : Type 1} → statement M
 all-small-spec =
     tie.close
-    (tie.spec
-    slice-aggregate-add-sizes
-    slice-aggregate-add-sizes-2
-    add-sizes-requires
-    returns
-    slice-aggregate-within-limits
-    slice-aggregate-within-limits-2
-    within-limits-requires
-    returns-2)
+    (tie.spec bound-requires measure-requires returns returns-2 measure-requires-2 returns-3)
