@@ -16,12 +16,19 @@ use Rattle.timestamp.specs.Parse.{accepted}
 use Rattle.timestamp.specs.Reading.{St, st, pickN, more, digitIn, dashIn, closeIn, steps, setIn, readIn, step-digit, step-dash, step-comma}
 
 -- where a run begins in the reader's own terms: its start, or 0 for a run of one number
-abbrev startOf : ℕ → ℕ → ℕ
+abbrev pub startOf : ℕ → ℕ → ℕ
 startOf lo hi = pickN (ltb lo hi) lo 0
 
-digit-is : (d : ℕ) → d < 10 → isDigit (digit d) ≡ true
+pub digit-is : (d : ℕ) → d < 10 → isDigit (digit d) ≡ true
 unfolding isDigit within
 digit-is d h = ap₂ _&&_ (le-leb 48 (48 + d) (omega arith)) (le-leb (48 + d) 57 (omega arith))
+
+pub more-digit : (n d : ℕ) → n < 100 → d < 10 → 0 < n + d → more n (digit d) ≡ true
+more-digit n d hn hd h = go (decLt 0 n)
+  where
+    go : Dec (0 < n) → more n (digit d) ≡ true
+    go (yes q) = rw (lt-ltb n 100 hn, lt-ltb 0 n q)
+    go (no q) = rw (lt-ltb n 100 hn, le-ltb 0 n (omega arith)) (lt-ltb 48 (48 + d) (omega arith))
 
 module _ (s : ℕ → Bool) (p lo : ℕ) where
   digit-step : (n d : ℕ) (l : List ℕ) → n < 100 → d < 10 → 0 < n + d → steps (st s p lo n) (digit d ∷ l) ≡ steps (st s p lo (n * 10 + d)) l
@@ -29,20 +36,16 @@ module _ (s : ℕ → Bool) (p lo : ℕ) where
   digit-step n d l hn hd h =
       ap (λ (x : St). steps x l)
       (step-digit (st s p lo n) (digit d) (digit-is d hd)
-      ∙ rw (more-is (decLt 0 n)) (ap (st s p lo) (drop-48 d)))
+      ∙ rw (more-digit n d hn hd h) (ap (st s p lo) (drop-48 d)))
     where
       drop-48 : (x : ℕ) → n * 10 + (48 + x - 48) ≡ n * 10 + x
       drop-48 x = omega arith
-
-      more-is : Dec (0 < n) → more n (digit d) ≡ true
-      more-is (yes q) = rw (lt-ltb n 100 hn, lt-ltb 0 n q)
-      more-is (no q) = rw (lt-ltb n 100 hn, le-ltb 0 n (omega arith)) (lt-ltb 48 (48 + d) (omega arith))
 
   pub digits-steps : (m : ℕ) (l : List ℕ) → 0 < m → m < 1000 → steps (st s p lo 0) (digits m ++ l) ≡ steps (st s p lo m) l
   digits-steps = by-digits (λ n. steps (st s p lo n)) digit-step
 
 module _ (s : ℕ → Bool) (p lo hi : ℕ) (hp : p < lo) (hl : lo ≤ hi) (hh : hi < 1000) where
-  run-steps : (l : List ℕ) → steps (st s p 0 0) (runText lo hi l) ≡ steps (st s p (startOf lo hi) hi) l
+  pub run-steps : (l : List ℕ) → steps (st s p 0 0) (runText lo hi l) ≡ steps (st s p (startOf lo hi) hi) l
   unfolding runText steps dashIn
   run-steps l = go (decLt lo hi)
     where
@@ -56,7 +59,7 @@ module _ (s : ℕ → Bool) (p lo hi : ℕ) (hp : p < lo) (hl : lo ≤ hi) (hh :
           let e : lo ≡ hi = omega arith in
           rw (le-ltb lo hi (omega arith)) (digits-steps s p 0 lo l (omega arith) (omega arith) ∙ ap (λ (x : ℕ). steps (st s p 0 x) l) e)
 
-  run-close : closeIn (st s p (startOf lo hi) hi) ≡ st (joined s (between lo hi)) (hi + 1) 0 0
+  pub run-close : closeIn (st s p (startOf lo hi) hi) ≡ st (joined s (between lo hi)) (hi + 1) 0 0
   unfolding closeIn
   run-close = go (decLt lo hi)
     where

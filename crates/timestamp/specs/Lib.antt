@@ -17,7 +17,12 @@ pub mod Sound
 pub mod Ends
 pub mod Numbers
 pub mod Parses
+pub mod RunAt
+pub mod Place
+pub mod Narrow
 pub mod Write
 pub mod Written
+pub mod Change
+pub mod Cut
 pub mod Short
 pub mod Samples

@@ -2,19 +2,19 @@
 use Prim.Native.Nat.{ℕ, _+_, _-_, _*_, _/_, _%_, _≤_, _<_, min}
 use mathlib.Core.Path.{_≡_, refl, sym, ap, ap₂, _∙_}
 use mathlib.Core.List.{[], _∷_, _++_}
-use mathlib.Core.Bool.{Bool, true, false, _&&_}
+use mathlib.Core.Bool.{Bool, true, false, _&&_, and-true}
 use native.Mathlib.Omega.{arith}
 use native.Mathlib.Numerals.{add-one}
 use lib.Dec.{leb}
-use lib.ListN.{length, getD, drop}
+use lib.ListN.{length, getD, drop, length-append, length-drop, List·getD-eq-default}
 use lib.Seq.{drop-cons}
-use borrow.Author.Tests.{lt-ltb, le-ltb, leb-true, ne-eqb}
-use Rattle.xml.specs.Bytes.{Bytes, isDigit}
-use Rattle.xml.specs.Truth.{and-left, and-right}
+use borrow.Author.Tests.{lt-ltb, le-ltb, le-leb, leb-true, leb-false, ne-eqb}
+use Rattle.xml.specs.Bytes.{Bytes, isDigit, within}
+use Rattle.xml.specs.Truth.{clash, and-left, and-right}
 use Rattle.timestamp.specs.TimesLaws.{digit-low, digit-high}
 use Rattle.timestamp.specs.Belongs.{rests, step-digit}
-use Rattle.timestamp.specs.Digits.{digit, digits, by-digits}
-use Rattle.timestamp.specs.Reading.{st, bad, pickS, steps}
+use Rattle.timestamp.specs.Digits.{digit, digits, digits-length, by-digits}
+use Rattle.timestamp.specs.Reading.{st, bad, pickS, more, steps}
 use Rattle.timestamp.specs.Accepts.{digits-steps}
 use Rattle.timestamp.specs.Sound.{steps-bad}
 use Rattle.timestamp.specs.declared.text.Span.{Span}
@@ -28,8 +28,27 @@ pub data Onward (l : Bytes) (at m n to : ℕ) : Type 0 where
 abbrev pub isFirst : ℕ → Bool
 isFirst b = leb 49 b && leb b 57
 
+-- the byte at the place `to` is no digit that may follow the number n
+abbrev pub Ended : Bytes → ℕ → ℕ → Type 0
+Ended l n to = isDigit (getD l to 0) ≡ true → more n (getD l to 0) ≡ false
+
+pub ended-past : (l : Bytes) (n to : ℕ) → length l ≤ to → Ended l n to
+unfolding isDigit within
+ended-past l n to h d = clash (sym d ∙ ap isDigit (List·getD-eq-default l 0 h))
+
+pub ended-not : (l : Bytes) (n to : ℕ) → isDigit (getD l to 0) ≡ false → Ended l n to
+ended-not l n to e d = clash (sym d ∙ e)
+
+pub ended-long : (l : Bytes) (n to : ℕ) → 100 ≤ n → Ended l n to
+ended-long l n to h d = rw (le-ltb n 100 h)
+
+pub ended-none : (l : Bytes) (at : ℕ) → isFirst (getD l at 0) ≡ false → Ended l 0 at
+ended-none l at e d =
+    le-ltb 48 (getD l at 0)
+    (omega (arith, leb-false 49 (getD l at 0) (sym (ap (_&&_ (leb 49 (getD l at 0))) (le-leb (getD l at 0) 57 (digit-high (getD l at 0) d)) ∙ and-true (leb 49 (getD l at 0))) ∙ e)))
+
 -- ---- how a number is read of its bytes
-drop-one : (l : Bytes) (at : ℕ) → at + 1 ≤ length l → drop at l ≡ getD l at 0 ∷ drop (at + 1) l
+pub drop-one : (l : Bytes) (at : ℕ) → at + 1 ≤ length l → drop at l ≡ getD l at 0 ∷ drop (at + 1) l
 drop-one l at h = drop-cons l at 0 (omega arith) ∙ rw (add-one at)
 
 drop-two : (l : Bytes) (at : ℕ) → at + 2 ≤ length l → drop at l ≡ getD l at 0 ∷ getD l (at + 1) 0 ∷ drop (at + 2) l
@@ -99,6 +118,10 @@ module _ (l : Bytes) (at n : ℕ) (f : isFirst (getD l at 0) ≡ true) where
       let x = three-is (getD l at 0) f n (getD l (at + 1) 0) (getD l (at + 2) 0) g k e in
       reads refl (x .0) (x .1) (drop-three l at h ∙ ap (λ (s : Bytes). s ++ drop (at + 3) l) (sym (x .2))) (omega arith) h
 
+  pub three-long : isDigit (getD l (at + 1) 0) ≡ true → isDigit (getD l (at + 2) 0) ≡ true
+      → n ≡ getD l at 0 * 100 + getD l (at + 1) 0 * 10 + getD l (at + 2) 0 - 5328 → Ended l n (at + 3)
+  three-long g k e = ended-long l n (at + 3) (omega (arith, low (getD l at 0) f, digit-low (getD l (at + 1) 0) g, digit-low (getD l (at + 2) 0) k))
+
 -- ---- what the readers make of it
 module _ {l : Bytes} {at m n to : ℕ} where
   pub onward-most : Onward l at m n to → (b : ℕ) → 999 ≤ b → m ≤ b → n ≤ b
@@ -108,6 +131,12 @@ module _ {l : Bytes} {at m n to : ℕ} where
   pub onward-to : Onward l at m n to → at ≤ length l → (at ≤ to) × (to ≤ length l)
   onward-to (stays e f) h = (omega arith, omega arith)
   onward-to (reads z p q e f g) h = (f, g)
+
+  -- three digits at most are read
+  pub onward-near : Onward l at m n to → at ≤ length l → to ≤ at + 3
+  onward-near (stays e f) h = omega arith
+  onward-near (reads z p q e f g) h =
+      omega (arith, ap length e, length-append (digits n) (drop to l), length-drop at l, length-drop to l, digits-length n .1)
 
   pub onward-steps : Onward l at m n to → (s : ℕ → Bool) (p lo : ℕ) (ok : Bool) → steps (pickS ok (st s p lo m) bad) (drop at l) ≡ steps (pickS ok (st s p lo n) bad) (drop to l)
   onward-steps (stays e f) s p lo ok = rw (e, f)

@@ -1,6 +1,6 @@
 -- Reading a text strictly, in one pass: ascending maximal runs of the numbers 1 to 999, with no leading zeros.
 use Prim.Native.Nat.{ℕ, _+_, _-_, _*_, _≤_, _<_}
-use mathlib.Core.Path.{_≡_, refl, ap, _∙_}
+use mathlib.Core.Path.{_≡_, ap, _∙_}
 use mathlib.Core.List.{List, [], _∷_}
 use mathlib.Core.Bool.{Bool, true, false, _&&_, _||_}
 use native.Mathlib.Omega.{arith}
@@ -12,8 +12,7 @@ use borrow.Author.Tests.{ne-eqb, ltb-true}
 use Rattle.xml.specs.Bytes.{Bytes, isDigit, within}
 use Rattle.xml.specs.Truth.{and-left}
 use Rattle.timestamp.specs.Set.{none, joined, between}
-use Rattle.timestamp.specs.Parse.{Outcome, refused, accepted, pickOutcome}
-use Rattle.timestamp.specs.declared.text.Reader.{Reader}
+use Rattle.timestamp.specs.Parse.{Outcome, refused, accepted}
 
 -- the set so far, the bound that the next run must pass, the run's start or 0, and the number so far; or what is refused
 pub data St : Type 0 where
@@ -71,10 +70,6 @@ setIn (st s p lo n) = accepted s
 unfoldable pub readIn : Bytes → Outcome
 readIn l = setIn (closeIn (steps (st none 0 0 0) l))
 
--- the state that a set and a reader are
-abbrev pub view : (ℕ → Bool) → Reader → St
-view s r = pickS (r .ok) (st s (r .p) (r .lo) (r .n)) bad
-
 pub steps-on : (x : St) (l : List ℕ) (at : ℕ) → at < length l → steps x (drop at l) ≡ steps (stepIn x (getD l at 0)) (drop (at + 1) l)
 unfolding steps
 steps-on x l at h = ap (steps x) (drop-cons l at 0 h) ∙ rw (add-one at)
@@ -82,43 +77,6 @@ steps-on x l at h = ap (steps x) (drop-cons l at 0 h) ∙ rw (add-one at)
 pub steps-end : (x : St) (l : List ℕ) (at : ℕ) → length l ≤ at → steps x (drop at l) ≡ x
 unfolding steps
 steps-end x l at h = ap (steps x) (drop-of-length-le l h)
-
--- ---- what the reader's methods do
-module _ (s : ℕ → Bool) (p lo n : ℕ) where
-  pub digit-good : (ok : Bool) (b : ℕ) → more n b ≡ true → pickS ok (st s p lo (n * 10 + (b - 48))) bad ≡ digitIn (pickS ok (st s p lo n) bad) b
-  unfolding digitIn
-  digit-good true b e = rw e
-  digit-good false b e = refl
-
-  pub digit-bad : (ok : Bool) (b : ℕ) → more n b ≡ false → bad ≡ digitIn (pickS ok (st s p lo n) bad) b
-  unfolding digitIn
-  digit-bad true b e = rw e
-  digit-bad false b e = refl
-
-  pub dash-good : (ok : Bool) → opens p lo n ≡ true → pickS ok (st s p n 0) bad ≡ dashIn (pickS ok (st s p lo n) bad)
-  unfolding dashIn
-  dash-good true e = rw e
-  dash-good false e = refl
-
-  pub dash-bad : (ok : Bool) → opens p lo n ≡ false → bad ≡ dashIn (pickS ok (st s p lo n) bad)
-  unfolding dashIn
-  dash-bad true e = rw e
-  dash-bad false e = refl
-
-  pub close-good : (ok : Bool) (t : ℕ → Bool) → closes p lo n ≡ true → t ≡ joined s (between (startAt lo n) n)
-      → pickS ok (st t (n + 1) 0 0) bad ≡ closeIn (pickS ok (st s p lo n) bad)
-  unfolding closeIn
-  close-good true t e q = rw e (ap (λ (u : ℕ → Bool). st u (n + 1) 0 0) q)
-  close-good false t e q = refl
-
-  pub close-bad : (ok : Bool) → closes p lo n ≡ false → bad ≡ closeIn (pickS ok (st s p lo n) bad)
-  unfolding closeIn
-  close-bad true e = rw e
-  close-bad false e = refl
-
-  pub outcome-view : (ok : Bool) → pickOutcome ok s ≡ setIn (pickS ok (st s p lo n) bad)
-  outcome-view true = refl
-  outcome-view false = refl
 
 pub start-le : (p lo n : ℕ) → closes p lo n ≡ true → startAt lo n ≤ n
 start-le p lo n e = go (eqb lo 0) e

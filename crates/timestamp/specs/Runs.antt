@@ -62,7 +62,7 @@ from-cong s t i zero h = refl
 from-cong s t i (suc n) h = ap₂ (λ (b : Bool) (l : Times). b ∷ l) (h i (omega arith) (omega arith)) (from-cong s t (suc i) n (λ u a b. h u (omega arith) (omega arith)))
 
 -- ---- runs ascend
-asc-weaken : (p q : ℕ) (rs : List (ℕ × ℕ)) → p ≤ q → Asc q rs → Asc p rs
+pub asc-weaken : (p q : ℕ) (rs : List (ℕ × ℕ)) → p ≤ q → Asc q rs → Asc p rs
 asc-weaken p q [] h a = tt
 asc-weaken p q (r ∷ rs) h a = (omega (arith, a .0), a .1, a .2, a .3)
 

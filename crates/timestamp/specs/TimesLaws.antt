@@ -101,7 +101,7 @@ pub run-in : (i a b : ℕ) → inRun i (a, b) ≡ true → (a ≤ i) × (i ≤ b
 unfolding inRun
 run-in i a b t = (leb-true a i (and-left (leb a i) (leb i b) t), leb-true i b (and-right (leb a i) (leb i b) t))
 
-inRun-one : (i a : ℕ) → eqb i a ≡ inRun i (a, a)
+pub inRun-one : (i a : ℕ) → eqb i a ≡ inRun i (a, a)
 inRun-one i a = bool-eq (eqb i a) (inRun i (a, a))
     (λ t. let e = eqb-true i a t in in-run i a a (omega arith) (omega arith))
     (λ t. let x = run-in i a a t in eq-eqb i a (omega arith))
@@ -119,7 +119,7 @@ run-text i a b l m u =
     two-parts v = split-free (eqb 45) (decimal a) (45 ∷ decimal b) [] (decimal b ∷ []) (no-dash a l v)
         (split-sep (eqb 45) 45 (decimal b) refl ∙ ap (λ w. [] ∷ w) (split-alone (eqb 45) (decimal b) (no-dash b (omega arith) u))) ∙ rw append-nil refl
 
-free-run : (a b : ℕ) → 1 ≤ a → a ≤ b → b ≤ 999 → Free (eqb 44) (writeRun (a, b))
+pub free-run : (a b : ℕ) → 1 ≤ a → a ≤ b → b ≤ 999 → Free (eqb 44) (writeRun (a, b))
 unfolding writeRun bytes
 free-run a b l m u =
     bool-by (λ x. Free (eqb 44) (elim x as (λ _. Bytes) [ true ↦ decimal a | false ↦ decimal a ++ bytes "-" ++ decimal b ])) (eqb a b)
@@ -185,16 +185,25 @@ none-text : (i : ℕ) → 1 ≤ i → any (λ r. runHolds i (split (eqb 45) r)) 
 unfolding times-compute
 none-text i l = rw (ne-eqb i 0 (λ e. omega arith)) refl
 
-texts-are : (i : ℕ) (rs : List (ℕ × ℕ)) → 1 ≤ i → Within 1 rs → any (λ r. runHolds i (split (eqb 45) r)) (split (eqb 44) (joinBy (44 ∷ []) (map writeRun rs))) ≡ any (inRun i) rs
+some-texts : (i : ℕ) (r : ℕ × ℕ) (rs : List (ℕ × ℕ)) → Within 1 (r ∷ rs) → any (λ r. runHolds i (split (eqb 45) r)) (split (eqb 44) (joinBy (44 ∷ []) (map writeRun (r ∷ rs)))) ≡ any (inRun i) (r ∷ rs)
 unfolding any joinBy
-texts-are i [] l h = none-text i l
-texts-are i (r ∷ []) l h =
+some-texts i r [] h =
     rw (split-alone (eqb 44) (writeRun r) (free-run (r .0) (r .1) (h .0) (h .1) (h .2))) (rw (run-text i (r .0) (r .1) (h .0) (h .1) (h .2)) refl)
-texts-are i (r ∷ q ∷ rs) l h =
+some-texts i r (q ∷ rs) h =
     let rest : Bytes = joinBy (44 ∷ []) (map writeRun (q ∷ rs)) in
     let e : split (eqb 44) (writeRun r ++ 44 ∷ [] ++ rest) ≡ writeRun r ∷ split (eqb 44) rest
     = ap (split (eqb 44)) (append-assoc (writeRun r) (44 ∷ []) rest) ∙ split-free (eqb 44) (writeRun r) (44 ∷ rest) [] (split (eqb 44) rest) (free-run (r .0) (r .1) (h .0) (h .1) (h .2)) (split-sep (eqb 44) 44 rest refl) ∙ rw append-nil refl in
-    rw e (rw (run-text i (r .0) (r .1) (h .0) (h .1) (h .2), texts-are i (q ∷ rs) l (h .3)) refl)
+    rw e (rw (run-text i (r .0) (r .1) (h .0) (h .1) (h .2), some-texts i q rs (h .3)) refl)
+
+texts-are : (i : ℕ) (rs : List (ℕ × ℕ)) → 1 ≤ i → Within 1 rs → any (λ r. runHolds i (split (eqb 45) r)) (split (eqb 44) (joinBy (44 ∷ []) (map writeRun rs))) ≡ any (inRun i) rs
+unfolding any joinBy
+texts-are i [] l h = none-text i l
+texts-are i (r ∷ rs) l h = some-texts i r rs h
+
+-- just the numbers of its runs belong to the text of some
+pub belongs-runs : (i : ℕ) (r : ℕ × ℕ) (rs : List (ℕ × ℕ)) → Within 1 (r ∷ rs) → belongs i (joinBy (bytes ",") (map writeRun (r ∷ rs))) ≡ any (inRun i) (r ∷ rs)
+unfolding belongs bytes
+belongs-runs i r rs h = some-texts i r rs h
 
 -- "In text, a number belongs to it when one of its runs holds that number": just the numbers of the set
 pub belongs-times : (i : ℕ) (t : Times) → 1 ≤ i → length t ≤ 999 → belongs i (writeTimes t) ≡ getD t (i - 1) false

@@ -44,7 +44,7 @@ abbrev pub part : Bool → ℕ × ℕ → Bytes
 part true r = 44 ∷ [] ++ writeRun r
 part false r = writeRun r
 
-run-short : (lo hi : ℕ) → 1 ≤ lo → lo ≤ hi → hi < 1000 → (1 ≤ length (writeRun (lo, hi))) × (length (writeRun (lo, hi)) ≤ 7)
+pub run-short : (lo hi : ℕ) → 1 ≤ lo → lo ≤ hi → hi < 1000 → (1 ≤ length (writeRun (lo, hi))) × (length (writeRun (lo, hi)) ≤ 7)
 run-short lo hi a b h = go (ℕ-discrete lo hi)
   where
     go : Dec (lo ≡ hi) → (1 ≤ length (writeRun (lo, hi))) × (length (writeRun (lo, hi)) ≤ 7)

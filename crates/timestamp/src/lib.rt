@@ -1,10 +1,11 @@
 // Timestamps: sets of the version numbers 1 to 999, and their text. A set is passed as one value of sixteen words, a bit a version.
+pub mod change;
 pub mod text;
 pub mod write;
 
 ghost use mathlib.Core.Path.{_≡_};
 ghost use mathlib.Core.Bool.{true};
-ghost use Prim.Native.Nat.{_+_, _-_, _*_, _/_, _^_, _<_, _≤_, min};
+ghost use Prim.Native.Nat.{_+_, _-_, _*_, _/_, _^_, _<_, _≤_};
 ghost use lib.ListN.{length};
 ghost use lib.Bits.{bitAnd};
 ghost use lib.Count.{trailingZeros};
@@ -16,15 +17,20 @@ pub struct Timestamp {
     pub words: [u64; 16],
 }
 
-// The word whose low m bits are set; all of them where m is 64 or more.
+// The word whose low m bits are set.
 fn low(m: usize) -> u64
-    ensures { λ r. ⌜ r ≡ 2 ^ min m 64 - 1 ⌝ }
+    requires { ⌜ m < 64 ⌝ }
+    ensures { λ r. ⌜ r ≡ 2 ^ m - 1 ⌝ }
 {
-    if m < 64 {
-        (1u64 << m) - 1
-    } else {
-        0xffff_ffff_ffff_ffff
-    }
+    (1u64 << m) - 1
+}
+
+// The word whose bits up to place j are set.
+fn low_to(j: usize) -> u64
+    requires { ⌜ j < 64 ⌝ }
+    ensures { λ r. ⌜ r ≡ 2 ^ (j + 1) - 1 ⌝ }
+{
+    0xffff_ffff_ffff_ffff >> (63 - j)
 }
 
 // The place of a word's lowest bit; 64 where the word is 0.
@@ -76,7 +82,7 @@ fn fill_word(words: &mut [u64; 16], lo: usize, hi: usize)
     ensures { λ r. ⌜ (setOf (now (words .exit)) ≡ joined (setOf (now (words .entry))) (between lo hi)) × (length (now (words .exit)) ≡ 16) ⌝ }
 {
     let k = lo / 64;
-    words[k] = words[k] | (low(hi % 64 + 1) ^ low(lo % 64));
+    words[k] = words[k] | (low_to(hi % 64) ^ low(lo % 64));
 }
 
 // The numbers lo to hi, which stand in several words, put into the words of a set.
@@ -176,7 +182,7 @@ pub fn cut_words(words: &mut [u64; 16], i: usize) -> bool
         return true;
     }
     let k = i / 64;
-    words[k] = words[k] & low(i % 64 + 1);
+    words[k] = words[k] & low_to(i % 64);
     store(words, k + 1, 16, 0);
     false
 }

@@ -2,16 +2,18 @@
 use crate::Timestamp;
 use crate::fill;
 ghost use mathlib.Core.Path.{_≡_};
-ghost use mathlib.Core.Bool.{Bool, true};
-ghost use Prim.Native.Nat.{ℕ, _+_, _-_, _*_, _<_, _≤_, min};
+ghost use mathlib.Core.Bool.{true, false};
+ghost use Prim.Native.Nat.{_+_, _-_, _*_, _<_, _≤_, min};
 ghost use lib.ListN.{getD, length};
 ghost use Rattle.timestamp.specs.Times.{belongs as isIn};
-ghost use Rattle.timestamp.specs.Belongs.{dashed, stepped, holds};
+ghost use Rattle.timestamp.specs.Belongs.{dashed, stepped, holds as inSpan};
 ghost use Rattle.timestamp.specs.Set.{setOf};
 ghost use Rattle.timestamp.specs.Parse.{parsed, pickOutcome, outcome};
-ghost use Rattle.timestamp.specs.Numbers.{Onward, isFirst};
+ghost use Rattle.timestamp.specs.Numbers.{Onward, Ended, isFirst};
+ghost use Rattle.timestamp.specs.RunAt.{RunAt};
+ghost use Rattle.timestamp.specs.Place.{IsSet};
+ghost use Rattle.timestamp.specs.Narrow.{NextStart, Bracket, Narrowed};
 ghost use Rattle.timestamp.specs.Ends.{EndsBy};
-ghost use Rattle.timestamp.specs.Reading.{more, opens, closes, startAt, view, bad, digitIn, dashIn, closeIn, stepIn};
 ghost use Rattle.xml.specs.Bytes.{isDigit};
 
 // What is read of a run: the dashes in it (2 for more), the number before the last of them, and the number so far (1000 for more).
@@ -73,7 +75,7 @@ impl Span {
 
     // Whether v is in the run.
     fn holds(self, v: usize) -> bool
-        ensures { λ r. ⌜ r ≡ holds self v ⌝ }
+        ensures { λ r. ⌜ r ≡ inSpan self v ⌝ }
     {
         if self.dashes == 0 {
             return v == self.n;
@@ -130,24 +132,28 @@ fn three_digits(a: u8, b: u8, c: u8) -> usize
     (a as usize) * 100 + (b as usize) * 10 + (c as usize) - 5328
 }
 
-// The number at a place, of which two digits at most are read.
+// The number at a place after which the text has two bytes at most.
 fn short_at(text: &[u8], at: usize) -> Number
-    requires { ⌜ at ≤ length (now text) ⌝ }
-    ensures { λ r. ⌜ Onward (now (text .entry)) at 0 (r .n) (r .to) ⌝ }
+    requires { ⌜ (at ≤ length (now text)) × (length (now text) < at + 3) ⌝ }
+    ensures { λ r. ⌜ Onward (now (text .entry)) at 0 (r .n) (r .to) × Ended (now (text .entry)) (r .n) (r .to) ⌝ }
 {
     if text.len() <= at {
         return Number { n: 0, to: at };
     }
     let a = text[at];
     if is_first(a) {
-        if 1 < text.len() - at {
-            let b = text[at + 1];
-            if is_digit(b) {
-                return Number {
-                    n: two_digits(a, b),
-                    to: at + 2,
-                };
-            }
+        if text.len() - at < 2 {
+            return Number {
+                n: one_digit(a),
+                to: at + 1,
+            };
+        }
+        let b = text[at + 1];
+        if is_digit(b) {
+            return Number {
+                n: two_digits(a, b),
+                to: at + 2,
+            };
         }
         return Number {
             n: one_digit(a),
@@ -157,14 +163,11 @@ fn short_at(text: &[u8], at: usize) -> Number
     Number { n: 0, to: at }
 }
 
-// The number at a place, of which three digits at most are read.
-fn number_at(text: &[u8], at: usize) -> Number
-    requires { ⌜ at ≤ length (now text) ⌝ }
-    ensures { λ r. ⌜ Onward (now (text .entry)) at 0 (r .n) (r .to) ⌝ }
+// The number at a place after which the text has three bytes or more, of which three digits at most are read.
+fn long_at(text: &[u8], at: usize) -> Number
+    requires { ⌜ at + 3 ≤ length (now text) ⌝ }
+    ensures { λ r. ⌜ Onward (now (text .entry)) at 0 (r .n) (r .to) × Ended (now (text .entry)) (r .n) (r .to) ⌝ }
 {
-    if text.len() - at < 3 {
-        return short_at(text, at);
-    }
     let a = text[at];
     if is_first(a) {
         let b = text[at + 1];
@@ -187,6 +190,18 @@ fn number_at(text: &[u8], at: usize) -> Number
         };
     }
     Number { n: 0, to: at }
+}
+
+// The number at a place.
+fn number_at(text: &[u8], at: usize) -> Number
+    requires { ⌜ at ≤ length (now text) ⌝ }
+    ensures { λ r. ⌜ Onward (now (text .entry)) at 0 (r .n) (r .to) × Ended (now (text .entry)) (r .n) (r .to) ⌝ }
+{
+    if text.len() - at < 3 {
+        short_at(text, at)
+    } else {
+        long_at(text, at)
+    }
 }
 
 // The number at a place, where no digit of it is read before; else the number n so far.
@@ -235,14 +250,6 @@ pub fn belongs(text: &[u8], v: usize) -> bool
     }
 }
 
-// What is read of a text beside its set: whether it is right so far, the bound p that the next run must pass, the run's start or 0, and the number so far.
-pub struct Reader {
-    pub ok: bool,
-    pub p: usize,
-    pub lo: usize,
-    pub n: usize,
-}
-
 // A text's set, where it is the text of one.
 pub struct Parsed {
     pub ok: bool,
@@ -256,150 +263,129 @@ pub struct Scanned {
     pub stamp: Timestamp,
 }
 
-// The number stays below 1000 with this digit after it, and has no leading zero.
-fn may_follow(n: usize, b: u8) -> bool
-    ensures { λ r. ⌜ r ≡ more n b ⌝ }
+// A run that a text has at a place: its first and its last number, and the place after it; hi is 0 where none past the bound is read there.
+pub struct Run {
+    pub lo: usize,
+    pub hi: usize,
+    pub to: usize,
+}
+
+// The run at a place near the text's end, which must begin past the bound p.
+fn end_run_at(text: &[u8], at: usize, p: usize) -> Run
+    requires { ⌜ at ≤ length (now text) ⌝ }
+    ensures { λ r. ⌜ RunAt (now (text .entry)) at p (r .lo) (r .hi) (r .to) ⌝ }
 {
-    if n < 100 {
-        if 0 < n { true } else { 48 < b }
-    } else {
-        false
+    let first = number_at(text, at);
+    let lo = first.n;
+    let to = first.to;
+    if lo <= p {
+        return Run {
+            lo: 0,
+            hi: 0,
+            to: at,
+        };
+    }
+    if byte_at(text, to) != b'-' {
+        return Run {
+            lo: lo,
+            hi: lo,
+            to: to,
+        };
+    }
+    let last = number_at(text, to + 1);
+    if last.n <= lo {
+        return Run {
+            lo: 0,
+            hi: 0,
+            to: at,
+        };
+    }
+    Run {
+        lo: lo,
+        hi: last.n,
+        to: last.to,
     }
 }
 
-fn may_open(p: usize, lo: usize, n: usize) -> bool
-    ensures { λ r. ⌜ r ≡ opens p lo n ⌝ }
+// The run at a place, which must begin past the bound p; a run has seven bytes at most.
+pub fn run_at(text: &[u8], at: usize, p: usize) -> Run
+    requires { ⌜ at ≤ length (now text) ⌝ }
+    ensures { λ r. ⌜ RunAt (now (text .entry)) at p (r .lo) (r .hi) (r .to) ⌝ }
 {
-    if lo == 0 { p < n } else { false }
+    if text.len() - at < 7 {
+        return end_run_at(text, at, p);
+    }
+    let first = long_at(text, at);
+    let lo = first.n;
+    let to = first.to;
+    if lo <= p {
+        return Run {
+            lo: 0,
+            hi: 0,
+            to: at,
+        };
+    }
+    if text[to] != b'-' {
+        return Run {
+            lo: lo,
+            hi: lo,
+            to: to,
+        };
+    }
+    let last = long_at(text, to + 1);
+    if last.n <= lo {
+        return Run {
+            lo: 0,
+            hi: 0,
+            to: at,
+        };
+    }
+    Run {
+        lo: lo,
+        hi: last.n,
+        to: last.to,
+    }
 }
 
-fn may_close(p: usize, lo: usize, n: usize) -> bool
-    ensures { λ r. ⌜ r ≡ closes p lo n ⌝ }
+// The answer to a text that is refused.
+fn refused() -> Scanned
+    ensures { λ r. ⌜ r .ok ≡ false ⌝ }
 {
-    if lo == 0 { p < n } else { lo < n }
-}
-
-fn start_of(lo: usize, n: usize) -> usize
-    ensures { λ r. ⌜ r ≡ startAt lo n ⌝ }
-{
-    if lo == 0 { n } else { lo }
-}
-
-impl Reader {
-    // The text is refused.
-    fn fail(self) -> Self
-        requires { ⌜ self .n < 1000 ⌝ }
-        ensures { λ r. ⌜ ((s : ℕ → Bool) → view s r ≡ bad) × (r .n < 1000) ⌝ }
-    {
-        Reader {
-            ok: false,
-            p: self.p,
-            lo: self.lo,
-            n: self.n,
-        }
-    }
-
-    // The number with one digit more.
-    fn digit(self, b: u8) -> Self
-        requires { ⌜ (self .n < 1000) × (48 ≤ b) × (b ≤ 57) ⌝ }
-        ensures { λ r. ⌜ ((s : ℕ → Bool) → view s r ≡ digitIn (view s self) b) × (r .n < 1000) ⌝ }
-    {
-        let n = self.n;
-        if may_follow(n, b) {
-            Reader {
-                ok: self.ok,
-                p: self.p,
-                lo: self.lo,
-                n: n * 10 + ((b - 48) as usize),
-            }
-        } else {
-            self.fail()
-        }
-    }
-
-    // The number is a run's start.
-    fn dash(self) -> Self
-        requires { ⌜ self .n < 1000 ⌝ }
-        ensures { λ r. ⌜ ((s : ℕ → Bool) → view s r ≡ dashIn (view s self)) × (r .n < 1000) ⌝ }
-    {
-        if may_open(self.p, self.lo, self.n) {
-            Reader {
-                ok: self.ok,
-                p: self.p,
-                lo: self.n,
-                n: 0,
-            }
-        } else {
-            self.fail()
-        }
-    }
-
-    // The number is a run's end, and the run is put into the words.
-    fn close(self, words: &mut [u64; 16]) -> Self
-        requires { ⌜ (self .n < 1000) × (length (now words) ≡ 16) ⌝ }
-        ensures { λ r. ⌜ (view (setOf (now (words .exit))) r ≡ closeIn (view (setOf (now (words .entry))) self)) × (r .n < 1000) × (length (now (words .exit)) ≡ 16) ⌝ }
-    {
-        let n = self.n;
-        if may_close(self.p, self.lo, n) {
-            fill(words, start_of(self.lo, n), n);
-            Reader {
-                ok: self.ok,
-                p: n + 1,
-                lo: 0,
-                n: 0,
-            }
-        } else {
-            self.fail()
-        }
-    }
-
-    // One byte more.
-    fn step(self, b: u8, words: &mut [u64; 16]) -> Self
-        requires { ⌜ (self .n < 1000) × (length (now words) ≡ 16) ⌝ }
-        ensures { λ r. ⌜ (view (setOf (now (words .exit))) r ≡ stepIn (view (setOf (now (words .entry))) self) b) × (r .n < 1000) × (length (now (words .exit)) ≡ 16) ⌝ }
-    {
-        if is_digit(b) {
-            self.digit(b)
-        } else if b == b'-' {
-            self.dash()
-        } else if b == b',' {
-            self.close(words)
-        } else {
-            self.fail()
-        }
+    Scanned {
+        ok: false,
+        end: 0,
+        stamp: Timestamp::empty(),
     }
 }
 
 // The set with this text, and a number above all of its members; refused where it is the text of no set of numbers 1 to 999, or of the empty one.
+// A turn of the loop for each run.
 pub fn scan(text: &[u8]) -> Scanned
     ensures { λ r. ⌜ (pickOutcome (r .ok) (setOf (r .stamp .words)) ≡ parsed (now (text .entry)))
         × (r .ok ≡ true → EndsBy (r .end) (setOf (r .stamp .words))) ⌝ }
 {
     let mut words = [0u64; 16];
-    let first = number_at(text, 0);
-    let mut x = Reader {
-        ok: true,
-        p: 0,
-        lo: 0,
-        n: first.n,
-    };
-    let mut at = first.to;
-    while at < text.len() {
-        let z = x.step(text[at], &mut words);
-        let m = number_on(text, at + 1, z.n);
-        x = Reader {
-            ok: z.ok,
-            p: z.p,
-            lo: z.lo,
-            n: m.n,
-        };
-        at = m.to;
-    }
-    let y = x.close(&mut words);
-    Scanned {
-        ok: y.ok,
-        end: y.p,
-        stamp: Timestamp { words: words },
+    let mut p = 0;
+    let mut at = 0;
+    loop {
+        let run = run_at(text, at, p);
+        if run.hi == 0 {
+            return refused();
+        }
+        fill(&mut words, run.lo, run.hi);
+        p = run.hi + 1;
+        at = run.to;
+        if text.len() <= at {
+            return Scanned {
+                ok: true,
+                end: p,
+                stamp: Timestamp { words: words },
+            };
+        }
+        if text[at] != b',' {
+            return refused();
+        }
+        at += 1;
     }
 }
 
@@ -413,4 +399,70 @@ pub fn parse(text: &[u8]) -> Parsed
         ok: x.ok,
         stamp: stamp,
     }
+}
+
+// The place after the next comma from a place on, or the text's end.
+fn next_start(text: &[u8], at: usize) -> usize
+    requires { ⌜ at ≤ length (now text) ⌝ }
+    ensures { λ r. ⌜ NextStart (now (text .entry)) at r ⌝ }
+{
+    let mut i = at;
+    while i < text.len() {
+        if text[i] == b',' {
+            return i + 1;
+        }
+        i += 1;
+    }
+    i
+}
+
+// Two places of a text, between which a run is sought.
+pub struct Places {
+    pub lo: usize,
+    pub hi: usize,
+}
+
+// The half of the places where the last run is that begins at v or below it.
+fn halve(text: &[u8], lo: usize, hi: usize, v: usize) -> Places
+    requires { ⌜ Bracket (now text) v lo hi × (lo + 1 < hi) ⌝ }
+    ensures { λ r. ⌜ Bracket (now (text .entry)) v (r .lo) (r .hi) × (r .hi - r .lo < hi - lo) ⌝ }
+{
+    let mid = lo + (hi - lo) / 2;
+    let next = next_start(text, mid - 1);
+    if hi <= next {
+        return Places { lo: lo, hi: mid };
+    }
+    let first = number_at(text, next);
+    if first.n <= v {
+        return Places { lo: next, hi: hi };
+    }
+    Places { lo: lo, hi: mid }
+}
+
+// The place of the last run that begins at v or below it, or of the first run.
+pub fn narrow(text: &[u8], v: usize) -> usize
+    requires { ⌜ IsSet (now text) ⌝ }
+    ensures { λ r. ⌜ Narrowed (now (text .entry)) v r ⌝ }
+{
+    let mut lo = 0;
+    let mut hi = text.len();
+    while lo + 1 < hi {
+        let part = halve(text, lo, hi, v);
+        lo = part.lo;
+        hi = part.hi;
+    }
+    lo
+}
+
+// Whether v is in the set with this text, where it is the text of one: one run is read.
+pub fn holds(text: &[u8], v: usize) -> bool
+    requires { ⌜ IsSet (now text) ⌝ }
+    ensures { λ r. ⌜ r ≡ isIn v (now (text .entry)) ⌝ }
+{
+    let at = narrow(text, v);
+    let run = run_at(text, at, 0);
+    if v < run.lo {
+        return false;
+    }
+    v <= run.hi
 }

@@ -13,6 +13,7 @@ ghost use Rattle.timestamp.specs.Set.{setOf};
 ghost use Rattle.timestamp.specs.Times.{decimal, writeRun};
 ghost use Rattle.timestamp.specs.Listed.{textOf};
 ghost use Rattle.timestamp.specs.Write.{part};
+ghost use Rattle.timestamp.specs.Change.{tailText};
 
 fn put_digit(out: &mut [u8], at: usize, d: usize) -> usize
     requires { ⌜ (d < 10) × (at < 2 ^ 63) ⌝ }
@@ -62,6 +63,25 @@ fn put_part(out: &mut [u8], at: usize, later: bool, lo: usize, hi: usize) -> usi
     } else {
         put_run(out, at, lo, hi)
     }
+}
+
+// Writes what comes after the bytes of a set's text that stay: nothing, `-` and v, `,` and v, or v.
+pub fn put_tail(tail: usize, v: usize, out: &mut [u8], at: usize) -> usize
+    requires { ⌜ (tail < 4) × (1 ≤ v) × (v < 1000) × (at < 2 ^ 62) ⌝ }
+    ensures { λ r. ⌜ Wrote (now (out .entry)) at (tailText tail v) r (now (out .exit)) ⌝ }
+{
+    if tail == 0 {
+        return at;
+    }
+    if tail == 1 {
+        let i = put(b'-', out, at);
+        return put_number(out, i, v);
+    }
+    if tail == 2 {
+        let i = put(b',', out, at);
+        return put_number(out, i, v);
+    }
+    put_number(out, at, v)
 }
 
 impl Timestamp {

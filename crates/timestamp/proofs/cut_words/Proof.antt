@@ -18,9 +18,7 @@ next-in-requires : tie.Need-next-in-requires
 next-in-requires c κs = search needs
 
 returns : tie.Need-returns
-returns c =
-    let b = c .before .before .before in
-    (cut-none (b .args .words .now) (b .args .i) (b .pre .1) (sym (c .before .next-in .ensures) ∙ c .if1 .taken), sym (same-told _ _ (λ v l. refl)), b .pre .1)
+returns c = (cut-none (c .before .before .before .args .words .now) (c .before .before .before .args .i) (c .before .before .before .pre .1) (sym (c .before .next-in .ensures) ∙ c .if1 .taken), sym (same-told _ _ (λ v l. refl)), c .before .before .before .pre .1)
 
 mul-words : tie.Need-mul-words
 mul-words c = search needs
@@ -28,11 +26,8 @@ mul-words c = search needs
 element-copy-out-words : tie.Need-element-copy-out-words
 element-copy-out-words c = search needs
 
-add-low : tie.Need-add-low
-add-low c = search needs
-
-low-requires : tie.Need-low-requires
-low-requires c κs = search needs
+low-to-requires : tie.Need-low-to-requires
+low-to-requires c κs = search needs
 
 mul-words-2 : tie.Need-mul-words-2
 mul-words-2 c = search needs
@@ -48,15 +43,11 @@ store-requires c κs = search needs
 
 returns-2 : tie.Need-returns-2
 returns-2 c =
-    let b = c .before .before .before .before .before .before .before in
-    let a = b .args .words .now in
-    let i = b .args .i in
-    let e : min (i % 64 + 1) 64 ≡ min (i + 1 - i / 64 * 64) 64 = omega arith in
-    let z : _ ≡ cutAt i (setOf a) = stored-zeros _ _ _ (c .store .ensures) ∙ rw (c .before .before .low .ensures, e) (cut-set a i (b .pre .1) (omega arith)) in (
-      z,
-      sym (ap (λ (s : ℕ → Bool). sameSet s (setOf a)) z ∙ cut-some (setOf a) i (b .pre .0) (λ q. c .before .before .before .before .if1 .left (c .before .before .before .before .before .next-in .ensures ∙ q))),
-      c .store .ensures .size,
-    )
+    let a = c .before .before .before .before .before .before .before .args .words .now in
+    let i = c .before .before .before .before .before .before .before .args .i in
+    let e : i % 64 + 1 ≡ min (i + 1 - i / 64 * 64) 64 = omega arith in
+    let z : _ ≡ cutAt i (setOf a) = stored-zeros _ _ _ (c .store .ensures) ∙ rw (c .before .before .low-to .ensures, e) (cut-set a i (c .before .before .before .before .before .before .before .pre .1) (omega arith)) in
+    (z, sym (ap (λ (s : ℕ → Bool). sameSet s (setOf a)) z ∙ cut-some (setOf a) i (c .before .before .before .before .before .before .before .pre .0) (λ q. c .before .before .before .before .if1 .left (c .before .before .before .before .before .next-in .ensures ∙ q))), c .store .ensures .size)
 
 pub cut-words-spec : {M : Type 1} → statement M
 cut-words-spec =
@@ -67,8 +58,7 @@ cut-words-spec =
     returns
     mul-words
     element-copy-out-words
-    add-low
-    low-requires
+    low-to-requires
     mul-words-2
     element-write-words
     add-store

@@ -14,14 +14,11 @@ mul-words c = search needs
 element-copy-out-words : tie.Need-element-copy-out-words
 element-copy-out-words c = search needs
 
-add-low : tie.Need-add-low
-add-low c = search needs
+low-to-requires : tie.Need-low-to-requires
+low-to-requires c κs = search needs
 
 low-requires : tie.Need-low-requires
 low-requires c κs = search needs
-
-low-requires-2 : tie.Need-low-requires-2
-low-requires-2 c κs = search needs
 
 mul-words-2 : tie.Need-mul-words-2
 mul-words-2 c = search needs
@@ -32,11 +29,9 @@ element-write-words c = search needs
 returns : tie.Need-returns
 returns c =
     let a = c .before .before .before .args in
-    let m : min (a .hi % 64 + 1) 64 ≡ min (a .hi + 1 - a .lo / 64 * 64) 64 = omega arith in
-    let n : min (a .lo % 64) 64 ≡ min (a .lo - a .lo / 64 * 64) 64 = omega arith in (
-      rw (c .before .low .ensures, m, c .low2 .ensures, n) (word-set (a .words .now) (a .lo) (a .hi) (c .before .before .before .pre .3) (omega arith) (omega arith) (omega arith)),
-      simp length-set (c .before .before .before .pre .3),
-    )
+    let m : a .hi % 64 + 1 ≡ min (a .hi + 1 - a .lo / 64 * 64) 64 = omega arith in
+    let n : a .lo % 64 ≡ min (a .lo - a .lo / 64 * 64) 64 = omega arith in
+    (rw (c .before .low-to .ensures, m, c .low .ensures, n) (word-set (a .words .now) (a .lo) (a .hi) (c .before .before .before .pre .3) (omega arith) (omega arith) (omega arith)), simp length-set (c .before .before .before .pre .3))
 
 pub fill-word-spec : {M : Type 1} → statement M
 fill-word-spec =
@@ -44,9 +39,8 @@ fill-word-spec =
     (tie.spec
     mul-words
     element-copy-out-words
-    add-low
+    low-to-requires
     low-requires
-    low-requires-2
     mul-words-2
     element-write-words
     returns)

@@ -1,5 +1,5 @@
 -- `timestamp::low` meets its contract.
-use Prim.Native.Nat.{ℕ, _*_, _%_, _^_, _<_, min}
+use Prim.Native.Nat.{ℕ, _*_, _%_, _^_, _<_}
 use mathlib.Core.Path.{_≡_}
 use native.Mathlib.Omega.{arith}
 use lib.Pow.{pow-pos, pow-lt}
@@ -15,13 +15,10 @@ shl-result : tie.Need-shl-result
 shl-result c = search needs
 
 sub-result : tie.Need-sub-result
-sub-result c = rw (pow-is (c .before .args .m) (omega arith)) (omega (arith, pow-pos (c .before .args .m)))
+sub-result c = rw (pow-is (c .args .m) (omega arith)) (omega (arith, pow-pos (c .args .m)))
 
 returns : tie.Need-returns
-returns c = let e : min (c .before .args .m) 64 ≡ c .before .args .m = omega arith in rw (pow-is (c .before .args .m) (omega arith), e)
-
-returns-2 : tie.Need-returns-2
-returns-2 c = let e : min (c .before .args .m) 64 ≡ 64 = omega arith in rw e
+returns c = rw (pow-is (c .args .m) (omega arith))
 
 pub low-spec : {M : Type 1} → statement M
-low-spec = tie.close (tie.spec shl-result sub-result returns returns-2)
+low-spec = tie.close (tie.spec shl-result sub-result returns)

@@ -38,7 +38,7 @@ comma c = sym (c .before .byte-at .ensures) ∙ c .if1 .left
 -- the pass from here gives the answer
 begun : (c : tie.At-loop2 Inv-loop2 μ-loop2 Inv-loop μ-loop)
     → rests (c .loop2 .run) (drop (c .loop2 .at) (c .before .before .before .before .args .text .now)) (c .before .before .before .before .args .v) ≡ belongs (c .before .before .before .before .args .v) (c .before .before .before .before .args .text .now)
-begun c = c .loop2 .inv .3 ∙ sym (onward-rests (c .before .number-at .ensures) 0 0 (c .before .before .before .before .args .v)) ∙ c .before .before .loop .inv .1
+begun c = c .loop2 .inv .3 ∙ sym (onward-rests (c .before .number-at .ensures .0) 0 0 (c .before .before .before .before .args .v)) ∙ c .before .before .loop .inv .1
 
 loop-holds : tie.Need-loop-holds Inv-loop2 μ-loop2 Inv-loop μ-loop
 loop-holds c = (omega arith, rests-is (c .before .args .v) (c .before .pre) (c .before .args .text .now))
@@ -48,7 +48,7 @@ number-at-requires c κs = search needs
 
 loop2-holds : tie.Need-loop2-holds Inv-loop2 μ-loop2 Inv-loop μ-loop
 loop2-holds c =
-    let o = c .number-at .ensures in
+    let o = c .number-at .ensures .0 in
     (omega arith, onward-to o (omega arith) .1, onward-most o 1000 (omega arith) (omega arith), refl)
 
 byte-at-requires : tie.Need-byte-at-requires Inv-loop2 μ-loop2 Inv-loop μ-loop
@@ -91,7 +91,7 @@ add-at : tie.Need-add-at Inv-loop2 μ-loop2 Inv-loop μ-loop
 add-at c = omega (arith, c .if3 .left)
 
 loop-less : tie.Need-loop-less Inv-loop2 μ-loop2 Inv-loop μ-loop
-loop-less c = omega (arith, c .if3 .left, onward-to (c .before .before .before .before .before .before .number-at .ensures) (omega arith) .0)
+loop-less c = omega (arith, c .if3 .left, onward-to (c .before .before .before .before .before .before .number-at .ensures .0) (omega arith) .0)
 
 loop-again : tie.Need-loop-again Inv-loop2 μ-loop2 Inv-loop μ-loop
 loop-again c = (

@@ -9,7 +9,7 @@ number-at-requires : tie.Need-number-at-requires
 number-at-requires c κs = search needs
 
 returns : tie.Need-returns
-returns c = rw (c .before .if1 .taken) (c .number-at .ensures)
+returns c = rw (c .before .if1 .taken) (c .number-at .ensures .0)
 
 returns-2 : tie.Need-returns-2
 returns-2 c = stays refl refl
