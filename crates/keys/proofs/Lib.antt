@@ -13,5 +13,7 @@ pub mod LineTest
 pub mod TableGrown
 pub mod LoadSteps
 pub mod LoadCells
+pub mod LineParts
+pub mod ContextLaws
 pub mod AddLine
 pub mod LoadWhole

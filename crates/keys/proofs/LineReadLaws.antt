@@ -44,7 +44,7 @@ unfolding isRootContext
 root-only [] e = refl
 root-only (n ∷ p) e = absurd (clash e refl)
 
-not-root : (p : Path) → isRootContext p ≡ false → writeContext p ≡ writePath p
+pub not-root : (p : Path) → isRootContext p ≡ false → writeContext p ≡ writePath p
 unfolding isRootContext writeContext
 not-root [] e = absurd (clash refl e)
 not-root (n ∷ p) e = refl

@@ -15,7 +15,7 @@ use Rattle.xml.specs.ScanLaws.{nameLen-fits, common-self, begins}
 use Rattle.xml.specs.Names.{name-all, name-taken, name-some}
 use Rattle.xml.specs.Truth.{by-test, and-left, and-right, both}
 use Rattle.keys.specs.KeyList.{Path, writePath}
-use Rattle.keys.specs.LineScans.{pathRun}
+use Rattle.keys.specs.LineScans.{pathRun, Begun}
 
 -- ---- a path
 run-skip : (k : ℕ) (s : Bytes) → k ≤ length s → pathRun k s ≡ k + pathRun 0 (drop k s)
@@ -86,10 +86,11 @@ unfolding writePath bytes-compute
 path-head [] c t h = (c, t, refl, h)
 path-head (n ∷ p) c t h = (47, (n ++ writePath p) ++ c ∷ t, refl, refl)
 
-pub run-path : (p : Path) (c : ℕ) (t : Bytes) → all isName p ≡ true → isNameByte c ≡ false → (c ≡ 47 → ⊥) → pathRun 0 (writePath p ++ c ∷ t) ≡ length (writePath p)
+-- a path that stands there is counted whole, and then what goes on after it
+pub run-through : (p : Path) (c : ℕ) (t : Bytes) → all isName p ≡ true → isNameByte c ≡ false → pathRun 0 (writePath p ++ c ∷ t) ≡ length (writePath p) + pathRun 0 (c ∷ t)
 unfolding writePath all bytes
-run-path [] c t a h f = run-none c t (λ e. absurd (f e))
-run-path (n ∷ p) c t a h f =
+run-through [] c t a h = omega arith
+run-through (n ∷ p) c t a h =
     let s = writePath p ++ c ∷ t in
     let q = path-head p c t h in
     let nm = and-left (isName n) (all isName p) a in
@@ -97,9 +98,16 @@ run-path (n ∷ p) c t a h f =
     let d : drop (nameLen (n ++ s)) (n ++ s) ≡ s = ap (λ (m : ℕ). drop m (n ++ s)) l ∙ drop-append-seam n s in
     let r = run-step 47 (n ++ s) refl (λ g. name-some n nm (sym l ∙ g)) in
     let e : (n ++ writePath p) ++ c ∷ t ≡ n ++ s = append-assoc n (writePath p) (c ∷ t) in
-    let i = ap (pathRun 0) d ∙ run-path p c t (and-right (isName n) (all isName p) a) h f in
+    let i = ap (pathRun 0) d ∙ run-through p c t (and-right (isName n) (all isName p) a) h in
     let w = ap (λ (z : Bytes). pathRun 0 (47 ∷ z)) e in
     omega (arith, length-append n (writePath p))
+
+pub run-path : (p : Path) (c : ℕ) (t : Bytes) → all isName p ≡ true → isNameByte c ≡ false → (c ≡ 47 → ⊥) → pathRun 0 (writePath p ++ c ∷ t) ≡ length (writePath p)
+run-path p c t a h f = omega (arith, run-through p c t a h, run-none c t (λ e. absurd (f e)))
+
+-- where no name is known
+pub begun-none : (text : Bytes) (at : ℕ) → Begun text at (at + 1)
+begun-none text at = record { within = λ h. h; run = refl }
 
 -- what is counted is a path
 pub record PathAt (s : Bytes) : Type 0 where

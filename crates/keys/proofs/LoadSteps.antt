@@ -1,5 +1,5 @@
 -- The loops of loading: counting a row, walking down a context, and the tests of a line.
-use Prim.Native.Nat.{ℕ, _+_, _-_, _<_, _≤_}
+use Prim.Native.Nat.{ℕ, _+_, _<_, _≤_}
 use native.Mathlib.Omega.{arith}
 use mathlib.Core.Path.{_≡_, refl, sym, _∙_, ap, subst}
 use mathlib.Core.Bool.{Bool, true, false, not}
@@ -15,10 +15,10 @@ use Rattle.keys.specs.KeyList.{Path, KeyList}
 use Rattle.keys.specs.Version.{_▸_}
 use Rattle.keys.specs.Table.{placeOf, Table, parentIn, keysIn}
 use Rattle.keys.specs.Placed.{Placed, OfPlace}
-use Rattle.keys.specs.PlaceLaws.{place-root}
 use Rattle.keys.specs.Rows.{Row, Rowed}
 use Rattle.keys.proofs.RowLaws.{row-next, row-end}
-use Rattle.keys.specs.Loading.{Tabled, PlaceOfRow, lineIn, Decides, Small}
+use Rattle.keys.specs.Contexts.{PlaceOfRow, CountOfRow}
+use Rattle.keys.specs.Loading.{Tabled, lineIn, Decides, Small}
 
 -- ---- a row, counted
 -- k names of the row are behind i
@@ -35,7 +35,7 @@ count-turn {d} {text} {e} {from} {i} {m} k a h q ns r =
     let z : i + d + m ≡ i + (d + m) = omega arith in
     (x .rest, subst (λ (j : ℕ). Row d text e j (x .rest)) z (x .row), omega (arith, t .2, ap length (x .is)))
 
-pub count-ends : {d : ℕ} {text : Bytes} {e from i : ℕ} {k : ℕ} → Counted d text e from i k → e ≤ i + d → (ns : List Bytes) → Row d text e from ns → k ≡ length ns
+pub count-ends : {d : ℕ} {text : Bytes} {e from i : ℕ} {k : ℕ} → Counted d text e from i k → e ≤ i + d → CountOfRow d text from e k
 count-ends a h ns r = let t = a ns r in omega (arith, t .2, ap length (row-end (t .1) h))
 
 pub rowed-go : {d : ℕ} {text : Bytes} {e i k : ℕ} → Rowed d text e i → i + d < e → k ≡ nameLen (drop (i + d) text) → Rowed d text e (i + (d + k))
@@ -52,32 +52,28 @@ pub record Way (text : Bytes) (e i place : ℕ) (K : KeyList) (p : Path) : Type 
 abbrev pub Walked : Bytes → ℕ → List ℕ → ℕ → ℕ → ℕ → ℕ → ℕ → Type 0
 Walked text at cells n from e i place = (K : KeyList) (p : Path) → Table (take at text) cells n K → Row 1 text e from p → Way text e i place K p
 
-module _ (text : Bytes) (at : ℕ) (cells : List ℕ) (n from e : ℕ) where
-  pub walk-starts : Walked text at cells n from e from 128
-  walk-starts K p t r = record { gone = []; left = p; joined = refl; place-is = place-root K; row = r }
+module _ (text : Bytes) (at : ℕ) (cells : List ℕ) (n from e i place : ℕ) (w : Walked text at cells n from e i place) where
+  pub walk-placed : Tabled (take at text) cells n → Rowed 1 text e from → Placed (take at text) cells n place
+  walk-placed t r = let x = w (t .keys) (r .names) (t .table) (r .row) in record { keyList = t .keys; path = x .gone; table = t .table; place-is = x .place-is }
 
-  module _ (i place : ℕ) (w : Walked text at cells n from e i place) where
-    pub walk-placed : Tabled (take at text) cells n → Rowed 1 text e from → Placed (take at text) cells n place
-    walk-placed t r = let x = w (t .keys) (r .names) (t .table) (r .row) in record { keyList = t .keys; path = x .gone; table = t .table; place-is = x .place-is }
+  pub walk-turn : (m r : ℕ) → i + 1 < e → m ≡ nameLen (drop (i + 1) text) → OfPlace (take at text) cells n place (λ K p. r ≡ placeOf K (p ▸ slice (i + 1) (i + 1 + m) text))
+      → Walked text at cells n from e (i + (1 + m)) r
+  walk-turn m r h q f K p t o =
+      let x = w K p t o in
+      let y = row-next (x .row) h q in
+      let z : i + 1 + m ≡ i + (1 + m) = omega arith in
+      record {
+        gone = x .gone ▸ y .name;
+        left = y .rest;
+        joined = append-assoc (x .gone) (y .name ∷ []) (y .rest) ∙ ap (λ (s : Path). x .gone ++ s) (sym (y .is)) ∙ x .joined;
+        place-is = ap (λ (s : Bytes). placeOf K (x .gone ▸ s)) (sym (y .part)) ∙ sym (f K (x .gone) t (x .place-is));
+        row = subst (λ (j : ℕ). Row 1 text e j (y .rest)) z (y .row);
+      }
 
-    pub walk-turn : (m r : ℕ) → i + 1 < e → m ≡ nameLen (drop (i + 1) text) → OfPlace (take at text) cells n place (λ K p. r ≡ placeOf K (p ▸ slice (i + 1) (i + 1 + m) text))
-        → Walked text at cells n from e (i + (1 + m)) r
-    walk-turn m r h q f K p t o =
-        let x = w K p t o in
-        let y = row-next (x .row) h q in
-        let z : i + 1 + m ≡ i + (1 + m) = omega arith in
-        record {
-          gone = x .gone ▸ y .name;
-          left = y .rest;
-          joined = append-assoc (x .gone) (y .name ∷ []) (y .rest) ∙ ap (λ (s : Path). x .gone ++ s) (sym (y .is)) ∙ x .joined;
-          place-is = ap (λ (s : Bytes). placeOf K (x .gone ▸ s)) (sym (y .part)) ∙ sym (f K (x .gone) t (x .place-is));
-          row = subst (λ (j : ℕ). Row 1 text e j (y .rest)) z (y .row);
-        }
-
-    pub walk-ends : e ≤ i + 1 → PlaceOfRow text at cells n from e place
-    walk-ends h K p t o =
-        let x = w K p t o in
-        sym (x .place-is) ∙ ap (placeOf K) (sym (append-nil (x .gone)) ∙ ap (λ (s : Path). x .gone ++ s) (sym (row-end (x .row) h)) ∙ x .joined)
+  pub walk-ends : e ≤ i + 1 → PlaceOfRow text at cells n from e place
+  walk-ends h K p t o =
+      let x = w K p t o in
+      sym (x .place-is) ∙ ap (placeOf K) (sym (append-nil (x .gone)) ∙ ap (λ (s : Path). x .gone ++ s) (sym (row-end (x .row) h)) ∙ x .joined)
 
 -- ---- tests
 module _ (cells : List ℕ) (n i : ℕ) where

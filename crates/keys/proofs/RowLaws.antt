@@ -1,7 +1,7 @@
 -- Going along a row of names: what is asked of all of them is asked of one after another.
 use Prim.Native.Nat.{ℕ, _+_, _<_, _≤_}
 use native.Mathlib.Omega.{arith}
-use mathlib.Core.Path.{_≡_, refl, sym, _∙_, ap, subst}
+use mathlib.Core.Path.{_≡_, refl, sym, _∙_, ap, ap₂, subst}
 use mathlib.Core.Bool.{Bool, true, false}
 use mathlib.Core.List.{List, [], _∷_}
 use lib.ListN.{length, drop}
@@ -45,6 +45,13 @@ row-next {d} {text} {e} {i} {k} (row-name {n = n} {ns = ns} l p s b r) h q =
 pub row-end : {d : ℕ} {text : Bytes} {e i : ℕ} {ns : List Bytes} → Row d text e i ns → e ≤ i + d → ns ≡ []
 row-end (row-none f b w) h = refl
 row-end (row-name l p s b r) h = absurd (omega arith)
+
+-- the names of a row are no others
+pub row-one : {d : ℕ} {text : Bytes} {e i : ℕ} {ns ms : List Bytes} → Row d text e i ns → Row d text e i ms → ns ≡ ms
+row-one (row-none f b w) r = sym (row-end r b)
+row-one {d} {text} {e} {i} (row-name {n = n} {ns = ns} l p s b q) r =
+    let x = row-next r (omega arith) (sym l) in
+    ap₂ (λ (m : Bytes) (ms : List Bytes). m ∷ ms) (sym p ∙ x .part) (row-one q (x .row)) ∙ sym (x .is)
 
 -- the names from `from` on have the answer of those from i on
 abbrev pub Along : {A : Type 0} → ℕ → Bytes → ℕ → (List Bytes → A) → ℕ → ℕ → Type 0

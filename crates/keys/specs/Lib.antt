@@ -33,6 +33,7 @@ pub mod NotationLaws
 pub mod Rows
 pub mod LineScans
 pub mod LineRead
+pub mod Contexts
 pub mod Added
 pub mod Loading
 pub mod Walks

@@ -8,11 +8,14 @@ use lib.ListN.{length, getD, take}
 use lib.Seq.{slice}
 use Rattle.xml.specs.Bytes.{Bytes, any, same}
 use Rattle.keys.specs.Result.{refused, r3, r4}
-use Rattle.keys.specs.KeyList.{Path, KeyList, keyList}
-use Rattle.keys.specs.Table.{placeOf, Table, parentIn, keysIn}
+use Rattle.keys.specs.KeyList.{KeyList, keyList}
+use Rattle.keys.specs.Table.{Table, parentIn, keysIn}
 use Rattle.keys.specs.Rows.{Row}
 use Rattle.keys.specs.LineRead.{LineIs, InNotation, Upto}
+use Rattle.keys.specs.Contexts.{ContextOf, LastIs}
 use Rattle.keys.specs.Added.{KeyCell, Added}
+use Rattle.keys.specs.declared.contexts.Context.{Context}
+use Rattle.keys.specs.declared.contexts.Last.{Last}
 use Rattle.keys.specs.declared.notation.End.{End}
 use Rattle.keys.specs.declared.notation.End.the-variants.{At, Nowhere}
 use Rattle.keys.specs.declared.load.Loaded.{Loaded}
@@ -22,10 +25,6 @@ use Rattle.keys.specs.declared.load.Loaded.the-variants.{Table as Loads,
 pub record Tabled (text : Bytes) (cells : List ℕ) (n : ℕ) : Type 0 where
   pub keys : KeyList
   pub table : Table text cells n keys
-
--- the place of the path whose names stand in a row
-abbrev pub PlaceOfRow : Bytes → ℕ → List ℕ → ℕ → ℕ → ℕ → ℕ → Type 0
-PlaceOfRow text at cells n from e r = (K : KeyList) (p : Path) → Table (take at text) cells n K → Row 1 text e from p → r ≡ placeOf K p
 
 -- the path number i comes right after its parent, as one of its key names
 abbrev pub impliedIn : List ℕ → ℕ → Bool
@@ -73,23 +72,35 @@ abbrev pub LinePut : Bytes → List ℕ → List ℕ → ℕ → ℕ → ℕ →
 LinePut text cells cells′ n place context name names keys = (ns : List Bytes) → Row 2 text names (name + 1) ns → keys ≡ length ns → Added text cells cells′ n place (context + 3) name names ns
 
 -- ---- line by line
--- the lines up to `at` keep the rules, and the cells are their table
-pub record Building (text : Bytes) (cells : List ℕ) (at n lines : ℕ) : Type 0 where
+-- a line breaks a rule; 4 is returned for it where 3 does not apply
+abbrev pub Breaks : Bytes → Type 0
+Breaks text = InNotation text → keyList text ≡ refused r4
+
+-- the lines up to `at` keep the rules, the cells are their table, and this is kept of the last of them
+pub record Building (text : Bytes) (cells : List ℕ) (at n lines : ℕ) (last : Last) : Type 0 where
   pub upto : Upto text at
   pub table : Table (take at text) cells n (upto .done)
+  pub last-is : LastIs text (upto .done) last
   pub counted : lines ≡ length (upto .done)
   pub later : at ≡ 0 → ⊥
-  pub whole : InNotation text
   pub room : length cells ≡ 256
   pub short : length text ≤ 4096
 
-pub record Adding (text : Bytes) (cells : List ℕ) (at n lines context name names : ℕ) : Type 0 where
-  pub built : Building text cells at n lines
+pub record Adding (text : Bytes) (cells : List ℕ) (at n lines : ℕ) (here : Context) (context name names : ℕ) : Type 0 where
+  pub last : Last
+  pub built : Building text cells at n lines last
   pub line : LineIs text at context name names
+  pub here-is : ContextOf text at cells n (at + 1) context here
 
-abbrev pub AddRead : Bytes → List ℕ → ℕ → ℕ → End → Type 0
-AddRead text cells lines names (At m) = Building text cells (names + 4) m (lines + 1)
-AddRead text cells lines names Nowhere = keyList text ≡ refused r4
+abbrev pub AddRead : Bytes → List ℕ → ℕ → ℕ → Last → End → Type 0
+AddRead text cells lines names last (At m) = Building text cells (names + 4) m (lines + 1) last
+AddRead text cells lines names last Nowhere = Breaks text
+
+-- the answer for a text that is refused
+abbrev pub Refuses : Bytes → Loaded → Type 0
+Refuses text (Loads n) = ⊥
+Refuses text NotNoted = keyList text ≡ refused r3
+Refuses text NotKept = keyList text ≡ refused r4
 
 abbrev pub LoadRead : Bytes → List ℕ → Loaded → Type 0
 LoadRead text cells (Loads n) = (K : KeyList) × Table text cells n K

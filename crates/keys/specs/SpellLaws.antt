@@ -96,6 +96,12 @@ path-words (n ∷ p) e = skip (eqb 47) no-slash 47 (n ++ writePath p) refl ∙ g
         word (eqb 47) no-slash n 47 (m ++ writePath q) (name-free (eqb 47) no-slash n h) (name-filled n h) refl
         ∙ ap (λ z. n ∷ z) (sym (skip (eqb 47) no-slash 47 (m ++ writePath q) refl) ∙ ih)
 
+-- one more name
+pub path-next : (p : Path) (n : Bytes) → writePath (p ++ n ∷ []) ≡ writePath p ++ 47 ∷ n
+unfolding writePath bytes
+path-next [] n = ap (λ (z : Bytes). 47 ∷ z) (append-nil n)
+path-next (m ∷ p) n = ap (λ (z : Bytes). 47 ∷ (m ++ z)) (path-next p n) ∙ ap (λ (z : Bytes). 47 ∷ z) (sym (append-assoc m (writePath p) (47 ∷ n)))
+
 context-words : (p : Path) → all isName p ≡ true → keep (λ w. not (isEmpty w)) (split (eqb 47) (writeContext p)) ≡ p
 unfolding writeContext bytes keep split isEmpty
 context-words [] e = refl
@@ -138,7 +144,7 @@ unfolding keyOf
 key-back k d = ap keyOf (line-words k d) ∙ ap (λ (p : Path). record { context = p; name = k .name; keyNames = k .keyNames }) (context-words (k .context) (d .context-names))
 
 -- ---- the test of a line
-all-append : (p q : List Bytes) → all isName (p ++ q) ≡ (all isName p && all isName q)
+pub all-append : (p q : List Bytes) → all isName (p ++ q) ≡ (all isName p && all isName q)
 unfolding all
 all-append [] q = refl
 all-append (n ∷ p) q = go (isName n) (all-append p q)

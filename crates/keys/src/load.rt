@@ -1,22 +1,27 @@
-// Key lists into tables: the whole notation first, then the rules, line by line over the table of the lines before.
+// Key lists into tables, line by line over the table of the lines before. Where a line breaks a rule, the rest is read for the notation, which goes before the rules.
+use crate::contexts::Context;
+use crate::contexts::Last;
+use crate::contexts::context_place;
+use crate::contexts::kept;
+use crate::contexts::known_context;
 use crate::notation::End;
 use crate::notation::Line;
-use crate::notation::in_notation;
+use crate::notation::in_notation_from;
 use crate::notation::is_among;
 use crate::notation::line_at;
 use crate::places::child;
 use xml::compare::same_bytes;
 use xml::scan::name_len;
 ghost use mathlib.Core.Path.{_≡_};
-ghost use mathlib.Core.List.{List};
 ghost use mathlib.Core.Bool.{not};
 ghost use Prim.Native.Nat.{_+_, _*_, _-_, _%_, _<_, _≤_};
 ghost use lib.Dec.{eqb};
-ghost use lib.ListN.{length, getD, set, take};
-ghost use Rattle.xml.specs.Bytes.{Bytes};
+ghost use lib.ListN.{length, getD, set};
 ghost use Rattle.keys.specs.Table.{bitOf};
-ghost use Rattle.keys.specs.Rows.{Row, Rowed};
-ghost use Rattle.keys.specs.Loading.{Tabled, PlaceOfRow, lineIn, Decides, HasT, Small, KeysPut, KeysRoom, LineRoom, LinePut, Building, Adding, AddRead, LoadRead};
+ghost use Rattle.keys.specs.Rows.{Rowed};
+ghost use Rattle.keys.specs.LineRead.{Upto};
+ghost use Rattle.keys.specs.Contexts.{CountOfRow, lastOf};
+ghost use Rattle.keys.specs.Loading.{lineIn, Decides, HasT, Small, KeysPut, KeysRoom, LineRoom, LinePut, Building, Adding, AddRead, Breaks, Refuses, LoadRead};
 
 // A key list's table with so many paths; or the text is not in the notation, or breaks a rule.
 pub enum Loaded {
@@ -25,34 +30,19 @@ pub enum Loaded {
     Rules,
 }
 
-// How many names stand in a row, each d bytes after the one before it.
-fn row_len(text: &[u8], from: usize, end: usize, d: usize) -> usize
-    requires { ⌜ Rowed d (now text) end from × (d ≤ 2) ⌝ }
-    ensures { λ r. ⌜ ((ns : List Bytes) → Row d (now (text .entry)) end from ns → r ≡ length ns) ⌝ }
+// How many key names stand in a row.
+fn row_len(text: &[u8], from: usize, end: usize) -> usize
+    requires { ⌜ Rowed 2 (now text) end from ⌝ }
+    ensures { λ r. ⌜ CountOfRow 2 (now (text .entry)) from end r ⌝ }
 {
     let mut i = from;
     let mut k: usize = 0;
-    while i + d < end {
-        let m = name_len(text, i + d);
-        i += d + m;
+    while i + 2 < end {
+        let m = name_len(text, i + 2);
+        i += 2 + m;
         k += 1;
     }
     k
-}
-
-// The place of a context, whose names stand in a row, in the table of the lines before `at`.
-fn context_place(text: &[u8], at: usize, table: &[u32], n: usize, from: usize, end: usize) -> usize
-    requires { ⌜ Tabled (take at (now text)) (now table) n × Rowed 1 (now text) end from × (at ≤ length (now text)) ⌝ }
-    ensures { λ r. ⌜ PlaceOfRow (now (text .entry)) at (now (table .entry)) n from end r ⌝ }
-{
-    let mut place = 128;
-    let mut i = from;
-    while i + 1 < end {
-        let m = name_len(text, i + 1);
-        place = child(&text[..at], table, n, place, text, i + 1, i + 1 + m);
-        i += 1 + m;
-    }
-    place
 }
 
 // The path at a place is a line's: listed, and no key name's.
@@ -166,69 +156,77 @@ fn put_line(
     set_inner(table, place);
 }
 
-// Adds the line at a place, which comes after so many lines: the number of paths after it; or it breaks a rule.
+// Adds the line at a place, which comes after so many lines and has this context: the number of paths after it; or it breaks a rule.
 fn add_line(
     text: &[u8],
     at: usize,
     table: &mut [u32],
     n: usize,
     lines: usize,
+    here: Context,
     context: usize,
     name: usize,
     names: usize,
 ) -> End
-    requires { ⌜ Adding (now text) (now table) at n lines context name names ⌝ }
-    ensures { λ r. ⌜ AddRead (now (text .entry)) (now (table .exit)) lines names r ⌝ }
+    requires { ⌜ Adding (now text) (now table) at n lines here context name names ⌝ }
+    ensures { λ r. ⌜ AddRead (now (text .entry)) (now (table .exit)) lines names (lastOf at context name n here) r ⌝ }
 {
     if lines == 64 {
         return End::Nowhere;
     }
-    let place = context_place(text, at, table, n, at + 1, context);
-    if !is_line(table, n, place) {
+    if !is_line(table, n, here.place) {
         return End::Nowhere;
     }
-    if child(&text[..at], table, n, place, text, context + 3, name) != 129 {
+    if child(&text[..at], table, n, here.place, text, context + 3, name) != 129 {
         return End::Nowhere;
     }
     if has_t(text, context, name, names) {
         return End::Nowhere;
     }
-    let keys = row_len(text, name + 1, names, 2);
-    if !is_small(row_len(text, at + 1, context, 1), keys, n) {
+    let keys = row_len(text, name + 1, names);
+    if !is_small(here.depth, keys, n) {
         return End::Nowhere;
     }
-    put_line(text, table, n, place, context, name, names, keys);
+    put_line(text, table, n, here.place, context, name, names, keys);
     End::At(n + 1 + keys)
 }
 
+// A line before `from` breaks a rule: so it is refused, unless the text is not in the notation.
+fn refusal(text: &[u8], from: usize) -> Loaded
+    requires { ⌜ (0 < from) × Upto (now text) from × Breaks (now text) ⌝ }
+    ensures { λ r. ⌜ Refuses (now (text .entry)) r ⌝ }
+{
+    if in_notation_from(text, from) {
+        return Loaded::Rules;
+    }
+    Loaded::Notation
+}
+
 // The lines after the first, which ends at `from`.
-fn add_lines(text: &[u8], table: &mut [u32], from: usize) -> Loaded
-    requires { ⌜ Building (now text) (now table) from 1 1 ⌝ }
+fn add_lines(text: &[u8], table: &mut [u32], from: usize, first: Last) -> Loaded
+    requires { ⌜ Building (now text) (now table) from 1 1 first ⌝ }
     ensures { λ r. ⌜ LoadRead (now (text .entry)) (now (table .exit)) r ⌝ }
 {
     let mut at = from;
     let mut n = 1;
     let mut lines = 1;
+    let mut last = first;
     while at < text.len() {
-        match line_at(text, at) {
+        let known = known_context(text, at, last);
+        match line_at(text, at, known.end) {
             Line::Wrong => return Loaded::Notation,
-            Line::Parts(context, name, names) => match add_line(
-                text,
-                at,
-                table,
-                n,
-                lines,
-                context,
-                name,
-                names,
-            ) {
-                End::Nowhere => return Loaded::Rules,
-                End::At(m) => {
-                    n = m;
-                    at = names + 4;
-                    lines += 1;
+            Line::Parts(context, name, names) => {
+                let here = context_place(text, at, table, n, known, context);
+                match add_line(text, at, table, n, lines, here, context, name, names) {
+                    End::Nowhere => return refusal(text, names + 4),
+                    End::At(m) => {
+                        last = kept(at, context, name, n, here);
+                        n = m;
+                        at = names + 4;
+                        lines += 1;
+                    }
                 }
-            },
+            }
         }
     }
     Loaded::Table(n)
@@ -239,20 +237,25 @@ pub fn load(text: &[u8], table: &mut [u32]) -> Loaded
     requires { ⌜ (length (now text) ≤ 4096) × (length (now table) ≡ 256) ⌝ }
     ensures { λ r. ⌜ LoadRead (now (text .entry)) (now (table .exit)) r ⌝ }
 {
-    if !in_notation(text) {
-        return Loaded::Notation;
-    }
-    match line_at(text, 0) {
+    match line_at(text, 0, 1) {
         Line::Wrong => Loaded::Notation,
         Line::Parts(context, name, names) => {
             if names != name + 3 {
-                return Loaded::Rules;
+                return refusal(text, names + 4);
             }
             if same_bytes(text, context + 3, name, b"T", 0, 1) {
-                return Loaded::Rules;
+                return refusal(text, names + 4);
             }
             put_path(table, 0, context + 3, name, 2048);
-            add_lines(text, table, names + 4)
+            let first = Last {
+                start: context,
+                end: context,
+                name,
+                place: 128,
+                depth: 0,
+                own: 0,
+            };
+            add_lines(text, table, names + 4, first)
         }
     }
 }

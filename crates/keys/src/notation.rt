@@ -9,8 +9,8 @@ ghost use lib.ListN.{length, drop};
 ghost use lib.Seq.{slice};
 ghost use Rattle.xml.specs.Bytes.{Bytes, any, distinct, same as sameBytes};
 ghost use Rattle.keys.specs.Rows.{Row, Rowed};
-ghost use Rattle.keys.specs.LineScans.{pathRun, namesEnd};
-ghost use Rattle.keys.specs.LineRead.{ContextRead, KeysRead, NameRead, LineRead, NotationRead};
+ghost use Rattle.keys.specs.LineScans.{pathRun, Begun, namesEnd};
+ghost use Rattle.keys.specs.LineRead.{ContextRead, KeysRead, NameRead, LineRead, Upto, NotationRead};
 
 // The end of a part of a line; or it is not there.
 pub enum End {
@@ -61,9 +61,9 @@ fn names_end(text: &[u8], from: usize) -> End
     End::Nowhere
 }
 
-// The end of the context of the line at a place, after its `(`.
-fn context_end(text: &[u8], at: usize) -> End
-    requires { ⌜ at ≤ length (now text) ⌝ }
+// The end of the context of the line at a place, after its `(`; of a path that stands there, the names before `from` are known.
+fn context_end(text: &[u8], at: usize, from: usize) -> End
+    requires { ⌜ (at ≤ length (now text)) × Begun (now text) at from ⌝ }
     ensures { λ r. ⌜ ContextRead (now (text .entry)) at r ⌝ }
 {
     if at == 0 {
@@ -75,7 +75,7 @@ fn context_end(text: &[u8], at: usize) -> End
     if same(text, at, b"(") != 1 {
         return End::Nowhere;
     }
-    let end = path_end(text, at + 1);
+    let end = path_end(text, from);
     if end == at + 1 {
         return End::Nowhere;
     }
@@ -144,12 +144,12 @@ fn line_end(text: &[u8], at: usize, context: usize, name: usize) -> Line
     }
 }
 
-// The line at a place.
-pub fn line_at(text: &[u8], at: usize) -> Line
-    requires { ⌜ at ≤ length (now text) ⌝ }
+// The line at a place; of a path that stands after its `(`, the names before `from` are known.
+pub fn line_at(text: &[u8], at: usize, from: usize) -> Line
+    requires { ⌜ (at ≤ length (now text)) × Begun (now text) at from ⌝ }
     ensures { λ r. ⌜ LineRead (now (text .entry)) at r ⌝ }
 {
-    match context_end(text, at) {
+    match context_end(text, at, from) {
         End::Nowhere => Line::Wrong,
         End::At(context) => {
             if same(text, context, b", (") != 3 {
@@ -167,21 +167,19 @@ pub fn line_at(text: &[u8], at: usize) -> Line
     }
 }
 
-// The text is lines in the notation, one at least.
-pub fn in_notation(text: &[u8]) -> bool
+// The whole text is lines in the notation: those before `from` are, one at least, and the rest is read.
+pub fn in_notation_from(text: &[u8], from: usize) -> bool
+    requires { ⌜ (0 < from) × Upto (now text) from ⌝ }
     ensures { λ r. ⌜ NotationRead (now (text .entry)) r ⌝ }
 {
-    let mut at = 0;
+    let mut at = from;
     while at < text.len() {
-        match line_at(text, at) {
+        match line_at(text, at, at + 1) {
             Line::Wrong => return false,
             Line::Parts(_, _, names) => {
                 at = names + 4;
             }
         }
-    }
-    if at == 0 {
-        return false;
     }
     true
 }

@@ -9,7 +9,7 @@ use native.Mathlib.Nat.{add-zero}
 use native.Mathlib.Omega.{arith}
 use lib.ListN.{length, drop, getD, set, length-set}
 use lib.Seq.{slice, drop-cons, drop-drop, getD-drop, getD-set-other}
-use Rattle.xml.specs.Bytes.{Bytes, isWhite}
+use Rattle.xml.specs.Bytes.{Bytes, isWhite, bytes-compute}
 use Rattle.xml.specs.Forest.{Forest, end, elem, text, stamp, join}
 use Rattle.xml.specs.Read.{tagNode, Stack, outer, inside, move, wrong, broken, isEnd, step, startTag, endTag, finish, read}
 use Rattle.xml.specs.declared.Run.{Run}
@@ -126,6 +126,10 @@ some-at (text b r) z t = refl
 some-at (elem m k r) z t = refl
 some-at (stamp m k r) z t = refl
 
+less-white : (b : ℕ) → b ≡ code "<" → isWhite b ≡ false
+unfolding bytes-compute
+less-white b e = ap isWhite e
+
 module _ {a : Bool} {src : Bytes} {cells : List ℕ} {at count : ℕ} (w : Here a src cells at count 0) where
   abbrev ro : Reading a src cells at count 0
   ro = w .reading
@@ -145,20 +149,31 @@ module _ {a : Bool} {src : Bytes} {cells : List ℕ} {at count : ℕ} (w : Here 
   pub outside-other : isWhite (getD src at 0) ≡ false → (getD src at 0 ≡ code "<" → ⊥) → read a src ≡ broken at
   outside-other e n = stops ro (w .here) 0 at (at-out ∙ out-other a (ro .forest) (getD src at 0) (drop (at + 1) src) e n) (omega arith)
 
-  pub outside-second : isWhite (getD src at 0) ≡ false → getD src at 0 ≡ code "<" → (count ≡ 0 → ⊥) → read a src ≡ broken at
-  outside-second e n z =
-      stops ro (w .here) 0 at (at-out ∙ out-second a (ro .forest) (getD src at 0) (drop (at + 1) src) e n (some-at (ro .forest) z (out .1))) (omega arith)
+  pub outside-second : getD src at 0 ≡ code "<" → (count ≡ 0 → ⊥) → read a src ≡ broken at
+  outside-second n z =
+      stops ro (w .here) 0 at (at-out ∙ out-second a (ro .forest) (getD src at 0) (drop (at + 1) src) (less-white (getD src at 0) n) n (some-at (ro .forest) z (out .1))) (omega arith)
 
-  pub outside-start : isWhite (getD src at 0) ≡ false → getD src at 0 ≡ code "<" → count ≡ 0 → Opening a src cells at count 0
-  outside-start e n z =
+  outside-start : getD src at 0 ≡ code "<" → count ≡ 0 → Opening a src cells at count 0
+  outside-start n z =
       let none = end-at (subst (λ (x : ℕ). Tape src cells 0 x (ro .forest)) z (out .1)) in
       record {
         reading = ro;
         here = w .here;
         starts =
-            at-out ∙ out-start a (ro .forest) (getD src at 0) (drop (at + 1) src) e n none
+            at-out ∙ out-start a (ro .forest) (getD src at 0) (drop (at + 1) src) (less-white (getD src at 0) n) n none
             ∙ ap (λ (x : Stack). startTag a x (ro .forest) (drop (at + 1) src)) (sym (out .0));
       }
+
+-- the same where nothing is open
+module _ {a : Bool} {src : Bytes} {cells : List ℕ} {at count top : ℕ} (w : Here a src cells at count top) (none : top ≤ 0) where
+  shut : top ≡ 0
+  shut = omega arith
+
+  pub outside : Here a src cells at count 0
+  outside = subst (Here a src cells at count) shut w
+
+  pub opening-root : getD src at 0 ≡ code "<" → count ≤ 0 → Opening a src cells at count top
+  opening-root e z = subst (Opening a src cells at count) (sym shut) (outside-start outside e (omega arith))
 
 -- ---- the end of the text
 module _ {a : Bool} {src : Bytes} {cells : List ℕ} {at count top : ℕ} (r : Reading a src cells at count top) (ends : length src ≤ at) where

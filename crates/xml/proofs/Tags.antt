@@ -1,10 +1,12 @@
 -- Tags at a place of a text: a law for each answer of the scanner.
 use Prim.Native.Char.{code}
 use Prim.Native.Nat.{ℕ, _+_, _-_, _≤_}
-use mathlib.Core.Path.{_≡_, ap, sym, _∙_, subst}
-use mathlib.Core.Bool.{Bool, true, false}
+use mathlib.Core.Path.{_≡_, ap, ap₂, sym, _∙_, subst}
+use mathlib.Core.Bool.{Bool, true, false, _&&_}
 use native.Mathlib.Nat.{add-zero}
 use native.Mathlib.Omega.{arith}
+use borrow.Author.Tests.{eqb-true}
+use lib.Dec.{eqb}
 use lib.ListN.{length, take, drop, getD, length-drop}
 use lib.Seq.{slice, getD-drop, drop-drop}
 use Rattle.xml.specs.Bytes.{Bytes, bytes}
@@ -12,18 +14,32 @@ use Rattle.xml.specs.Forest.{Forest}
 use Rattle.xml.specs.Read.{common, nameLen, timesLen, Stack, startTag}
 use Rattle.xml.specs.TapeLaws.{slice-part}
 use Rattle.xml.specs.ScanLaws.{nameLen-fits, timesLen-fits, common-fits}
-use Rattle.xml.specs.Tokens.{StartRead, TimesRead, EndNamed, timedBy, start-none, start-opens, start-lone, start-slash, start-bad, start-times, version-name, longer-name, other-name, timed-name, times-off, times-open, times-shut, end-off, end-open, end-shut}
+use Rattle.xml.specs.StepLaws.{in-range}
+use Rattle.xml.specs.Truth.{and-left, and-right}
+use Rattle.xml.specs.Tokens.{StartRead, TimesRead, EndNamed, timedBy, start-none, start-opens, start-lone, start-slash, beginsTimes, start-timed, start-other, times-off, times-open, times-shut, end-off, end-open, end-shut}
 use Rattle.xml.specs.declared.Run.{Run}
 use Rattle.xml.specs.declared.Run.the-variants.{Upto, Stop}
 use Rattle.xml.specs.declared.Start.the-variants.{Opens, Lone, Off}
+
+-- ---- a start tag after its `<`, with times or not
+begins-at : (a : Bool) (src : Bytes) (at : ℕ) → beginsTimes a (getD (drop at src) 0 0) (getD (drop at src) 1 0) ≡ beginsTimes a (getD src at 0) (getD src (at + 1) 0)
+begins-at a src at = ap₂ (beginsTimes a) (getD-drop at src 0 0 ∙ ap (λ (i : ℕ). getD src i 0) (add-zero at)) (getD-drop at src 1 0)
+
+pub times-begun : (a : Bool) (src : Bytes) (at : ℕ) → beginsTimes a (getD src at 0) (getD src (at + 1) 0) ≡ true → at + 1 ≤ length src
+times-begun a src at e =
+    let t = eqb (getD src at 0) (code "T") in
+    let s = eqb (getD src (at + 1) 0) (code " ") in
+    omega (arith, in-range src at 83 (eqb-true (getD src at 0) (code "T") (and-left t s (and-right a (t && s) e))))
+
+pub times-here : (a : Bool) (src : Bytes) (at : ℕ) → beginsTimes a (getD src at 0) (getD src (at + 1) 0) ≡ true → (r : Run) → TimesRead (drop (at + 1) src) r →
+    (st : Stack) (f : Forest) → startTag a st f (drop at src) ≡ timedBy st f (drop 1 (drop at src)) r
+times-here a src at e r h =
+    start-timed a (drop at src) (begins-at a src at ∙ e) r (subst (λ (s : Bytes). TimesRead s r) (sym (drop-drop 1 at src)) h)
 
 -- ---- a start tag after its `<`: its name has n bytes
 module _ (a : Bool) (src : Bytes) (at : ℕ) (inn : at ≤ length src) {n : ℕ} (len : n ≡ nameLen (drop at src)) where
   pub name-in : at + n ≤ length src
   name-in = omega (arith, nameLen-fits (drop at src), length-drop at src)
-
-  name-short : n ≤ length (drop at src)
-  name-short = omega (arith, nameLen-fits (drop at src))
 
   pub none-here : n ≡ 0 → StartRead a (drop at src) (Off 1)
   none-here z = start-none a (drop at src) len z
@@ -48,27 +64,8 @@ module _ (a : Bool) (src : Bytes) (at : ℕ) (inn : at ≤ length src) {n : ℕ}
         pub slash-here : (d ≡ code ">" → ⊥) → StartRead a (drop at src) (Off (2 + n))
         slash-here e = start-slash a (drop at src) len some (λ x. more (sym first ∙ x)) (first ∙ slash) (λ x. e (sym second ∙ x))
 
-      module _ (no : b ≡ code "/" → ⊥) where
-        pub version-here : a ≡ false → StartRead a (drop at src) (Off (1 + n))
-        version-here e = start-bad a (drop at src) len some (λ x. more (sym first ∙ x)) (λ x. no (sym first ∙ x)) (version-name a (drop at src) n e)
-
-        pub longer-here : (n ≡ 1 → ⊥) → StartRead a (drop at src) (Off (1 + n))
-        longer-here e = start-bad a (drop at src) len some (λ x. more (sym first ∙ x)) (λ x. no (sym first ∙ x)) (longer-name a (drop at src) n name-short e)
-
-        module _ {d : ℕ} (begins : d ≡ getD src at 0) where
-          start : getD (drop at src) 0 0 ≡ d
-          start = getD-drop at src 0 0 ∙ ap (λ (i : ℕ). getD src i 0) (add-zero at) ∙ sym begins
-
-          pub other-here : (d ≡ code "T" → ⊥) → StartRead a (drop at src) (Off (1 + n))
-          other-here e =
-              start-bad a (drop at src) len some (λ x. more (sym first ∙ x)) (λ x. no (sym first ∙ x))
-              (other-name a (drop at src) n name-short (λ x. e (sym start ∙ x)))
-
-          pub times-here : (r : Run) → a ≡ true → n ≡ 1 → d ≡ code "T" → TimesRead (drop (at + 1) src) r → (st : Stack) (f : Forest) →
-              startTag a st f (drop at src) ≡ timedBy st f (drop 1 (drop at src)) r
-          times-here r e o t h =
-              start-times a (drop at src) len r some (λ x. more (sym first ∙ x)) (λ x. no (sym first ∙ x))
-              (timed-name a (drop at src) n e o (start ∙ t)) (subst (λ (s : Bytes). TimesRead s r) (sym (drop-drop 1 at src)) h)
+      pub other-here : (b ≡ code "/" → ⊥) → beginsTimes a (getD src at 0) (getD src (at + 1) 0) ≡ false → StartRead a (drop at src) (Off (1 + n))
+      other-here bare e = start-other a (drop at src) len some (λ x. more (sym first ∙ x)) (λ x. bare (sym first ∙ x)) (begins-at a src at ∙ e)
 
 -- ---- an archive's start tag after its `<T`
 module _ (src : Bytes) (at : ℕ) (inn : at ≤ length src) {m : ℕ} (is : m ≡ common (bytes " t=\"") (drop at src)) where

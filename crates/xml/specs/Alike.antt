@@ -10,7 +10,7 @@ use lib.Dec.{eqb, ltb}
 use lib.ListN.{length, getD}
 use lib.Seq.{slice}
 use Rattle.xml.specs.Bytes.{Bytes, same}
-use Rattle.xml.specs.CompareLaws.{same-more}
+use Rattle.xml.specs.CompareLaws.{same-more, bytes-more}
 use Rattle.xml.specs.Read.{unescape}
 use Rattle.xml.specs.SameTapes.{not-false}
 use Rattle.xml.specs.SignLaws.{slice-first, unescape-plain}
@@ -62,25 +62,34 @@ pub record Onward (src₁ : Bytes) (i e₁ : ℕ) (src₂ : Bytes) (j e₂ r : �
   pub means : same (unescape 0 (slice i e₁ src₁)) (unescape 0 (slice j e₂ src₂)) ≡ same (unescape 0 (slice (i + r) e₁ src₁)) (unescape 0 (slice (j + r) e₂ src₂))
 
 module _ (src₁ : Bytes) (e₁ : ℕ) (src₂ : Bytes) (e₂ : ℕ) (h : e₁ ≤ length src₁) (k : e₂ ≤ length src₂) where
+  -- what is read of both is the same where it is of the rest: so over bytes that are alike, if it is over one
+  alike-along : (g : Bytes → Bytes)
+      → ((i j : ℕ) → i < e₁ → j < e₂ → isUnlike (getD src₁ i 0) (getD src₂ j 0) ≡ false → same (g (slice i e₁ src₁)) (g (slice j e₂ src₂)) ≡ same (g (slice (i + 1) e₁ src₁)) (g (slice (j + 1) e₂ src₂)))
+      → (r i j : ℕ) → i + r ≤ e₁ → j + r ≤ e₂ → Alike src₁ i src₂ j r → same (g (slice i e₁ src₁)) (g (slice j e₂ src₂)) ≡ same (g (slice (i + r) e₁ src₁)) (g (slice (j + r) e₂ src₂))
+  alike-along g f zero i j l m a = rw (add-zero, add-zero)
+  alike-along g f (suc r) i j l m a =
+      let x : i + r + 1 ≡ i + suc r = omega arith in
+      let y : j + r + 1 ≡ j + suc r = omega arith in
+      alike-along g f r i j (omega arith) (omega arith) (alike-part a (omega arith))
+      ∙ f (i + r) (j + r) (omega arith) (omega arith) (a .at r (omega arith))
+      ∙ ap₂ (λ (u v : ℕ). same (g (slice u e₁ src₁)) (g (slice v e₂ src₂))) x y
+
+  alike-is : (x y : ℕ) → isUnlike x y ≡ false → x ≡ y
+  alike-is x y u = eqb-true x y (not-false (eqb x y) (or-left (not (eqb x y)) (eqb x (code "&")) u))
+
   alike-one : (i j : ℕ) → i < e₁ → j < e₂ → isUnlike (getD src₁ i 0) (getD src₂ j 0) ≡ false
       → same (unescape 0 (slice i e₁ src₁)) (unescape 0 (slice j e₂ src₂)) ≡ same (unescape 0 (slice (i + 1) e₁ src₁)) (unescape 0 (slice (j + 1) e₂ src₂))
   alike-one i j l m u =
       let x = getD src₁ i 0 in
       let y = getD src₂ j 0 in
-      let e : x ≡ y = eqb-true x y (not-false (eqb x y) (or-left (not (eqb x y)) (eqb x (code "&")) u)) in
+      let e : x ≡ y = alike-is x y u in
       let n = eqb-false x (code "&") (or-right (not (eqb x y)) (eqb x (code "&")) u) in
       rw (slice-first i e₁ src₁ l h, slice-first j e₂ src₂ m k, unescape-plain x (slice (i + 1) e₁ src₁) n, unescape-plain y (slice (j + 1) e₂ src₂) (λ z. n (e ∙ z)))
       (same-more x y _ _ e)
 
-  alike-means : (r i j : ℕ) → i + r ≤ e₁ → j + r ≤ e₂ → Alike src₁ i src₂ j r
-      → same (unescape 0 (slice i e₁ src₁)) (unescape 0 (slice j e₂ src₂)) ≡ same (unescape 0 (slice (i + r) e₁ src₁)) (unescape 0 (slice (j + r) e₂ src₂))
-  alike-means zero i j l m a = rw (add-zero, add-zero)
-  alike-means (suc r) i j l m a =
-      let x : i + r + 1 ≡ i + suc r = omega arith in
-      let y : j + r + 1 ≡ j + suc r = omega arith in
-      alike-means r i j (omega arith) (omega arith) (alike-part a (omega arith))
-      ∙ alike-one (i + r) (j + r) (omega arith) (omega arith) (a .at r (omega arith))
-      ∙ ap₂ (λ (u v : ℕ). same (unescape 0 (slice u e₁ src₁)) (unescape 0 (slice v e₂ src₂))) x y
-
   pub onward : {i j r : ℕ} → i + r ≤ e₁ → j + r ≤ e₂ → Alike src₁ i src₂ j r → Onward src₁ i e₁ src₂ j e₂ r
-  onward {i} {j} {r} l m a = record { in₁ = l; in₂ = m; means = alike-means r i j l m a }
+  onward {i} {j} {r} l m a = record { in₁ = l; in₂ = m; means = alike-along (unescape 0) alike-one r i j l m a }
+
+  -- the parts themselves
+  pub alike-same : (i j r : ℕ) → i + r ≤ e₁ → j + r ≤ e₂ → Alike src₁ i src₂ j r → same (slice i e₁ src₁) (slice j e₂ src₂) ≡ same (slice (i + r) e₁ src₁) (slice (j + r) e₂ src₂)
+  alike-same i j r l m a = alike-along (λ s. s) (λ u v p q w. bytes-more src₁ u e₁ src₂ v e₂ p h q k (alike-is (getD src₁ u 0) (getD src₂ v 0) w)) r i j l m a

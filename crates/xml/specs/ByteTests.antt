@@ -302,6 +302,11 @@ module _ (b : ℕ) where
       (λ t. plain-other (omega arith) (leb-true b 0x7E t) (λ e. omega arith) (λ e. omega arith) d (λ e. omega arith))
       (λ t. plain-high (leb-false b 0x7E t))
 
+  pub plain-capital : code ">" < b → b < code "a" → isPlain b ≡ not (eqb b (code "]"))
+  plain-capital h k =
+      bool-by (λ (t : Bool). isPlain b ≡ not t) (eqb b (code "]")) (λ t. plain-bracket (eqb-true b (code "]") t))
+      (λ t. plain-above h (eqb-false b (code "]") t) ∙ le-leb b 0x7E (omega arith))
+
   pub plain-upper : code "<" ≤ b → b ≤ code ">" → isPlain b ≡ eqb b (code "=")
   plain-upper h k =
       bool-by (λ (t : Bool). isPlain b ≡ t) (eqb b (code "="))

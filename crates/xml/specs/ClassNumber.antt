@@ -3,7 +3,7 @@ use Prim.Native.Nat.{ℕ, _<_, _≤_}
 use mathlib.Core.Path.{_≡_, refl, _∙_}
 use mathlib.Core.Bool.{true, false}
 use lib.Dec.{eqb, leb}
-use borrow.Author.Tests.{eq-eqb, ne-eqb, le-leb, lt-leb}
+use borrow.Author.Tests.{le-leb, lt-leb}
 use Rattle.xml.specs.Bytes.{Class, illegal, white, start, other, markup, plain, classOf, isWhite, isLegal}
 
 -- "illegal, white space, name start, other name byte, markup (`<`, `&`), other text"
@@ -43,12 +43,6 @@ legal-number b = legal-class (classOf b)
 
 -- n is the class of b
 module _ (b : ℕ) {n : ℕ} (is : n ≡ classNumber (classOf b)) where
-  pub white-yes : n ≡ 1 → isWhite b ≡ true
-  white-yes e = white-number b ∙ rw (← is) (eq-eqb n 1 e)
-
-  pub white-no : (n ≡ 1 → ⊥) → isWhite b ≡ false
-  white-no e = white-number b ∙ rw (← is) (ne-eqb n 1 e)
-
   pub legal-yes : 1 ≤ n → isLegal b ≡ true
   legal-yes e = legal-number b ∙ rw (← is) (le-leb 1 n e)
 

@@ -48,6 +48,7 @@ pub mod WriteLaws
 pub mod SameTapes
 pub mod CompareLaws
 pub mod Alike
+pub mod Ends
 pub mod Neat
 pub mod NeatLaws
 pub mod NeatWritten

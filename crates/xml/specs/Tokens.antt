@@ -1,22 +1,25 @@
 -- What the scanner says of a tag, for any state of the reader: which step of reading it is.
 use Prim.Native.Char.{code}
-use Prim.Native.Nat.{ℕ, _+_, _<_, _≤_}
+use Prim.Native.Nat.{ℕ, suc, _+_}
 use mathlib.Core.Path.{_≡_, refl, ap, sym, _∙_}
 use mathlib.Core.Bool.{Bool, true, false, _&&_}
 use mathlib.Core.List.{[], _∷_}
 use native.Mathlib.Omega.{arith}
-use borrow.Author.Tests.{eq-eqb}
+use borrow.Author.Tests.{eq-eqb, ne-eqb, eqb-true, eqb-false}
+use lib.Dec.{eqb}
 use lib.ListN.{length, take, drop, getD}
-use Rattle.xml.specs.Bytes.{Bytes, bytes, same, sameBy}
+use lib.Seq.{getD-drop}
+use Rattle.xml.specs.Bytes.{Bytes, bytes, same, sameBy, isStart, isNameByte, bytes-compute}
 use Rattle.xml.specs.Forest.{Forest, end, elem, join}
 use Rattle.xml.specs.Read.{common, nameLen, timesLen, Tag, named, timed, tagName, tagNode, Stack, inside, Move, move, wrong, startOf, startTag, timesOf, timesEnd, endOf, endTag}
 use Rattle.xml.specs.declared.Run.{Run}
 use Rattle.xml.specs.declared.Run.the-variants.{Upto, Stop}
 use Rattle.xml.specs.declared.Start.{Start}
 use Rattle.xml.specs.declared.Start.the-variants.{Opens, Lone, Timed, Off}
-use Rattle.xml.specs.Truth.{not-so, and-both}
+use Rattle.xml.specs.Truth.{by-test, and-left, and-right, and-both, and-false}
 use Rattle.xml.specs.Held.{tagKind, tagBytes}
 use Rattle.xml.specs.TimedTags.{is-timed, timesTag}
+use Rattle.xml.specs.ScanLaws.{nameLen-cons, nameLen-fits, nameRest-off, common-off}
 use Rattle.xml.specs.StepLaws.{tag-none, tag-open, tag-bad, tag-times, tag-slash, tag-empty, times-bad, times-good, times-end-bad, times-end-good, end-good, end-bad, end-short}
 
 -- ---- the step that an answer stands for
@@ -84,18 +87,8 @@ unfolding bytes same sameBy
 first-name [] t = let z : _≡_ {A = ℕ} 0 84 = t in absurd (omega arith)
 first-name (b ∷ s) t = rw (eq-eqb b (code "T") t)
 
-module _ (a : Bool) (s : Bytes) (n : ℕ) where
-  pub version-name : a ≡ false → a && same (take n s) (bytes "T") ≡ false
-  version-name e = rw e
-
-  pub longer-name : n ≤ length s → (n ≡ 1 → ⊥) → a && same (take n s) (bytes "T") ≡ false
-  longer-name l z = not-so (a && same (take n s) (bytes "T")) (λ e. z (is-timed a s n l e .one))
-
-  pub other-name : n ≤ length s → (getD s 0 0 ≡ code "T" → ⊥) → a && same (take n s) (bytes "T") ≡ false
-  other-name l z = not-so (a && same (take n s) (bytes "T")) (λ e. z (ap (λ (x : Bytes). getD x 0 0) (is-timed a s n l e .is)))
-
-  pub timed-name : a ≡ true → n ≡ 1 → getD s 0 0 ≡ code "T" → a && same (take n s) (bytes "T") ≡ true
-  timed-name e o t = and-both a (same (take n s) (bytes "T")) e (ap (λ (i : ℕ). same (take i s) (bytes "T")) o ∙ first-name s t)
+timed-name : (a : Bool) (s : Bytes) (n : ℕ) → a ≡ true → n ≡ 1 → getD s 0 0 ≡ code "T" → a && same (take n s) (bytes "T") ≡ true
+timed-name a s n e o t = and-both a (same (take n s) (bytes "T")) e (ap (λ (i : ℕ). same (take i s) (bytes "T")) o ∙ first-name s t)
 
 -- ---- after `<T`
 module _ (s : Bytes) {m : ℕ} (is : m ≡ common (bytes " t=\"") s) where
@@ -114,6 +107,47 @@ module _ (s : Bytes) {m : ℕ} (is : m ≡ common (bytes " t=\"") s) where
 
     pub times-shut : m ≡ 4 → e ≡ 2 → TimesRead s (Upto n)
     times-shut z x st f = good z st f ∙ times-end-good st f (drop 4 s) n e x
+
+-- ---- a start tag, by its first two bytes: of an archive's tags those with `T` and a space have times
+abbrev pub beginsTimes : Bool → ℕ → ℕ → Bool
+beginsTimes a b d = a && (eqb b (code "T") && eqb d (code " "))
+
+times-name : (s : Bytes) → getD s 0 0 ≡ code "T" → getD s 1 0 ≡ code " " → 1 ≡ nameLen s
+unfolding bytes-compute
+times-name [] e h = let z : _≡_ {A = ℕ} 0 84 = e in absurd (omega arith)
+times-name (b ∷ []) e h = let z : _≡_ {A = ℕ} 0 32 = h in absurd (omega arith)
+times-name (b ∷ d ∷ s) e h = sym (nameLen-cons b (d ∷ s) (ap isStart e) ∙ ap suc (nameRest-off 31 d s (ap isNameByte h)))
+
+space-none : (s : Bytes) → (getD s 0 0 ≡ code " " → ⊥) → 0 ≡ common (bytes " t=\"") s
+unfolding bytes common
+space-none [] n = refl
+space-none (b ∷ s) n = sym (common-off (code " ") b (bytes "t=\"") s (ne-eqb (code " ") b (λ e. n (sym e))))
+
+module _ (a : Bool) (s : Bytes) where
+  abbrev Begins : Bool → Type 0
+  Begins t = beginsTimes a (getD s 0 0) (getD s 1 0) ≡ t
+
+  pub start-timed : Begins true → (r : Run) → TimesRead (drop 1 s) r → (st : Stack) (f : Forest) → startTag a st f s ≡ timedBy st f (drop 1 s) r
+  start-timed e r h =
+      let two = and-right a (eqb (getD s 0 0) (code "T") && eqb (getD s 1 0) (code " ")) e in
+      let t = eqb-true (getD s 0 0) (code "T") (and-left (eqb (getD s 0 0) (code "T")) (eqb (getD s 1 0) (code " ")) two) in
+      let p : getD s 1 0 ≡ 32 = eqb-true (getD s 1 0) (code " ") (and-right (eqb (getD s 0 0) (code "T")) (eqb (getD s 1 0) (code " ")) two) in
+      start-times a s (times-name s t p) r (λ z. omega arith) (λ z. let q : getD s 1 0 ≡ 62 = z in omega arith) (λ z. let q : getD s 1 0 ≡ 47 = z in omega arith)
+      (timed-name a s 1 (and-left a (eqb (getD s 0 0) (code "T") && eqb (getD s 1 0) (code " ")) e) refl t) h
+
+  -- of the others none but an element's goes on
+  pub start-other : {n : ℕ} → n ≡ nameLen s → (n ≡ 0 → ⊥) → (getD s n 0 ≡ code ">" → ⊥) → (getD s n 0 ≡ code "/" → ⊥) → Begins false → StartRead a s (Off (1 + n))
+  start-other {n} len z b d e = by-test (a && same (take n s) (bytes "T")) named-T (λ t. start-bad a s len z b d t)
+    where
+      named-T : a && same (take n s) (bytes "T") ≡ true → StartRead a s (Off (1 + n))
+      named-T t st f =
+          let i = is-timed a s n (omega (arith, nameLen-fits s)) t in
+          let o = i .one in
+          let c : getD s 0 0 ≡ code "T" = ap (λ (x : Bytes). getD x 0 0) (i .is) in
+          let p : eqb (getD s 1 0) (code " ") ≡ false = and-false (eq-eqb (getD s 0 0) (code "T") c) (and-false (i .archive) e) in
+          let g = times-off (drop 1 s) (space-none (drop 1 s) (λ x. eqb-false (getD s 1 0) (code " ") p (sym (getD-drop 1 s 0 0) ∙ x))) (λ x. omega arith) in
+          let q : 2 ≡ 1 + n = omega arith in
+          start-times a s len (Stop 2) z b d t g st f ∙ ap wrong q
 
 -- ---- after `</`
 module _ (name s : Bytes) {m : ℕ} (is : m ≡ common name s) where

@@ -6,7 +6,7 @@ use crate::text::sign_at;
 use crate::writer::least;
 use crate::writer::put_text;
 ghost use mathlib.Core.Path.{_≡_};
-ghost use mathlib.Core.Bool.{Bool, false};
+ghost use mathlib.Core.Bool.{Bool, true, false};
 ghost use Prim.Native.Nat.{ℕ, _+_, _-_, _<_, _≤_};
 ghost use lib.ListN.{length};
 ghost use lib.Seq.{slice};
@@ -87,6 +87,18 @@ fn alike_bytes(src1: &[u8], i: usize, src2: &[u8], j: usize, count: usize) -> us
     n
 }
 
+// src1[a1..e1] and src2[a2..e2], which are mostly long and the same, are the same bytes: whole blocks first.
+pub fn same_long(src1: &[u8], a1: usize, e1: usize, src2: &[u8], a2: usize, e2: usize) -> bool
+    requires { ⌜ Parts (now src1) a1 e1 (now src2) a2 e2 ⌝ }
+    ensures { λ r. ⌜ r ≡ same (slice a1 e1 (now (src1 .entry))) (slice a2 e2 (now (src2 .entry))) ⌝ }
+{
+    if e1 - a1 != e2 - a2 {
+        return false;
+    }
+    let n = alike_blocks(src1, a1, src2, a2, e1 - a1);
+    same_bytes(src1, a1 + n, e1, src2, a2 + n, e2)
+}
+
 // How many bytes at the start of the runs src1[i..e1] and src2[j..e2] are alike, and so mean the same: whole blocks first, then byte by byte.
 fn alike_len(src1: &[u8], i: usize, e1: usize, src2: &[u8], j: usize, e2: usize) -> usize
     requires { ⌜ Parts (now src1) i e1 (now src2) j e2 ⌝ }
@@ -97,11 +109,36 @@ fn alike_len(src1: &[u8], i: usize, e1: usize, src2: &[u8], j: usize, e2: usize)
     n + alike_bytes(src1, i + n, src2, j + n, count - n)
 }
 
+// The runs src1[a1..e1] and src2[a2..e2] end in bytes that differ and end no entity, and so mean different things.
+fn ends_differ(src1: &[u8], a1: usize, e1: usize, src2: &[u8], a2: usize, e2: usize) -> bool
+    requires { ⌜ Parts (now src1) a1 e1 (now src2) a2 e2 ⌝ }
+    ensures { λ r. ⌜ (r ≡ true → same (unescape 0 (slice a1 e1 (now (src1 .entry)))) (unescape 0 (slice a2 e2 (now (src2 .entry)))) ≡ false) ⌝ }
+{
+    if a1 == e1 {
+        return false;
+    }
+    if a2 == e2 {
+        return false;
+    }
+    let b = src1[e1 - 1];
+    let c = src2[e2 - 1];
+    if b == c {
+        return false;
+    }
+    if b == b';' {
+        return false;
+    }
+    c != b';'
+}
+
 // The runs of text whose raw bytes are src1[a1..e1] and src2[a2..e2] mean the same: bytes that are alike are passed together.
 pub fn same_run(src1: &[u8], a1: usize, e1: usize, src2: &[u8], a2: usize, e2: usize) -> bool
     requires { ⌜ Parts (now src1) a1 e1 (now src2) a2 e2 ⌝ }
     ensures { λ r. ⌜ r ≡ same (unescape 0 (slice a1 e1 (now (src1 .entry)))) (unescape 0 (slice a2 e2 (now (src2 .entry)))) ⌝ }
 {
+    if ends_differ(src1, a1, e1, src2, a2, e2) {
+        return false;
+    }
     let mut i = a1;
     let mut j = a2;
     while i < e1 {

@@ -4,7 +4,7 @@ use crate::Reply;
 use crate::Run;
 use crate::Start;
 use crate::Step;
-use crate::class::class;
+use crate::class::is_white_byte;
 use crate::scan::byte_at;
 use crate::scan::end_tag;
 use crate::scan::start_tag;
@@ -105,37 +105,27 @@ fn close_tag(
     }
 }
 
-// A byte outside the root.
-fn outside(src: &[u8], archive: bool, tape: &mut [u32], at: usize, count: usize) -> Step
-    requires { ⌜ Here archive (now src) (now tape) at count 0 ⌝ }
-    ensures { λ r. ⌜ Stepped archive (now (src .entry)) (now (tape .entry)) at count (now (tape .exit)) r ⌝ }
-{
-    let b = src[at];
-    if class(b) == 1 {
-        return Step::Go(at + 1, count, 0);
-    }
-    if b != b'<' {
-        return Step::Bad(at);
-    }
-    if count != 0 {
-        return Step::Bad(at);
-    }
-    open_tag(src, archive, tape, at, count, 0)
-}
-
-// The token at `at`.
+// The token at `at`: text or a tag in an open node; white space or the root's tag outside.
 fn advance(src: &[u8], archive: bool, tape: &mut [u32], at: usize, count: usize, top: usize) -> Step
     requires { ⌜ Here archive (now src) (now tape) at count top ⌝ }
     ensures { λ r. ⌜ Stepped archive (now (src .entry)) (now (tape .entry)) at count (now (tape .exit)) r ⌝ }
 {
-    if top == 0 {
-        return outside(src, archive, tape, at, count);
+    let b = src[at];
+    if b != b'<' {
+        if 0 < top {
+            return characters(src, archive, tape, at, count, top);
+        }
+        if is_white_byte(b) {
+            return Step::Go(at + 1, count, 0);
+        }
+        return Step::Bad(at);
     }
-    if src[at] != b'<' {
-        return characters(src, archive, tape, at, count, top);
-    }
-    if byte_at(src, at + 1) == b'/' {
-        return close_tag(src, archive, tape, at, count, top);
+    if 0 < top {
+        if byte_at(src, at + 1) == b'/' {
+            return close_tag(src, archive, tape, at, count, top);
+        }
+    } else if 0 < count {
+        return Step::Bad(at);
     }
     open_tag(src, archive, tape, at, count, top)
 }

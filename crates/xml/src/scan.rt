@@ -7,6 +7,7 @@ use crate::class::class;
 use crate::class::is_name_byte;
 use crate::class::is_name_start;
 use crate::text::is_marked;
+use crate::writer::least;
 ghost use mathlib.Core.Path.{_≡_};
 ghost use mathlib.Core.Bool.{true, false, not};
 ghost use Prim.Native.Nat.{ℕ, _+_, _<_, _≤_, max};
@@ -16,7 +17,7 @@ ghost use Rattle.xml.specs.ByteTests.{isPlain};
 ghost use Rattle.xml.specs.Bytes.{isTimes};
 ghost use Rattle.xml.specs.Read.{common, nameRest, nameLen, timesLen, entityAt, textByte, scan as scanned};
 ghost use Rattle.xml.specs.Stretch.{Each, Passed, Times, isFar, bracketsAfter};
-ghost use Rattle.xml.specs.Tokens.{TimesRead, StartRead, EndRead, EndNamed};
+ghost use Rattle.xml.specs.Tokens.{beginsTimes, TimesRead, StartRead, EndRead, EndNamed};
 
 // The byte at a place; the end of the text counts as a byte 0.
 pub fn byte_at(src: &[u8], i: usize) -> u8
@@ -25,12 +26,14 @@ pub fn byte_at(src: &[u8], i: usize) -> u8
     if i < src.len() { src[i] } else { 0 }
 }
 
+// How many bytes of a name stand at a place, after its first.
 fn name_rest(src: &[u8], at: usize) -> usize
     requires { ⌜ at ≤ length (now src) ⌝ }
     ensures { λ r. ⌜ r ≡ nameRest 31 (drop at (now (src .entry))) ⌝ }
 {
+    let count = least(31, src.len() - at);
     let mut n = 0;
-    while n < 31 && at + n < src.len() {
+    while n < count {
         if !is_name_byte(src[at + n]) {
             return n;
         }
@@ -166,21 +169,22 @@ pub fn entity_at(src: &[u8], at: usize) -> Found
     Found::Miss(larger(lt, larger(gt, larger(amp, larger(quot, larger(apos, 0))))))
 }
 
-// A byte after which a text goes on, whatever stands before it: a line feed, or 32 to 126 and none of `<`, `&`, `]`, `>`.
+// A byte after which a text goes on, whatever stands before it: a line feed, or 32 to 126 and none of `<`, `&`, `]`, `>`. Digits are told first,
+// then small letters.
 fn is_plain(b: u8) -> bool
     ensures { λ r. ⌜ r ≡ isPlain b ⌝ }
 {
-    if b'>' < b {
-        if b == b']' {
-            return false;
-        }
+    if (b'&' < b) & (b < b'<') {
+        return true;
+    }
+    if b'a' <= b {
         return b <= 126;
     }
-    if b'<' <= b {
-        return b == b'=';
+    if b'>' < b {
+        return b != b']';
     }
     if b'&' < b {
-        return true;
+        return b == b'=';
     }
     if b < 32 {
         return b == b'\n';
@@ -195,14 +199,14 @@ fn is_far(b: u8) -> bool
     (b < 32) | (126 < b) | (b == b']')
 }
 
-// Whether one of sixteen bytes is marked or far; without a branch, so that they are compared at once.
-fn has_other(src: &[u8], at: usize) -> bool
-    requires { ⌜ at + 16 ≤ length (now src) ⌝ }
-    ensures { λ r. ⌜ (r ≡ false → Each isPlain true (now (src .entry)) at (at + 16)) ⌝ }
+// Whether one of `count` bytes is marked or far; without a branch, so that they are compared at once.
+fn has_other(src: &[u8], at: usize, count: usize) -> bool
+    requires { ⌜ at + count ≤ length (now src) ⌝ }
+    ensures { λ r. ⌜ (r ≡ false → Each isPlain true (now (src .entry)) at (at + count)) ⌝ }
 {
     let mut hit = false;
     let mut far = false;
-    for i in 0..16 {
+    for i in 0..count {
         let b = src[at + i];
         hit = hit | is_marked(b);
         far = far | is_far(b);
@@ -217,7 +221,7 @@ fn plain_blocks(src: &[u8], at: usize) -> usize
 {
     let mut j = at;
     while 16 <= src.len() - j {
-        if has_other(src, j) {
+        if has_other(src, j, 16) {
             return j;
         }
         j += 16;
@@ -240,7 +244,7 @@ fn plain_bytes(src: &[u8], at: usize, e: usize) -> usize
     j
 }
 
-// A place up to which the text has plain bytes alone, from a place on: sixteen one by one, then blocks, then one by one.
+// A place up to which the text has plain bytes alone, from a place on: eight one by one, then blocks, then one by one.
 fn plain_run(src: &[u8], at: usize) -> usize
     requires { ⌜ at ≤ length (now src) ⌝ }
     ensures { λ r. ⌜ Passed isPlain true (now (src .entry)) at (length (now (src .entry))) r ⌝ }
@@ -248,11 +252,14 @@ fn plain_run(src: &[u8], at: usize) -> usize
     if src.len() - at <= 16 {
         return plain_bytes(src, at, src.len());
     }
-    let j = plain_bytes(src, at, at + 16);
-    if j < at + 16 {
+    let j = plain_bytes(src, at, at + 8);
+    if j < at + 8 {
         return j;
     }
-    plain_bytes(src, plain_blocks(src, j), src.len())
+    if has_other(src, j, 8) {
+        return plain_bytes(src, j, src.len());
+    }
+    plain_bytes(src, plain_blocks(src, j + 8), src.len())
 }
 
 // What a byte of a text means, after q times `]`; the table is asked of the bytes that mean nothing here.
@@ -330,11 +337,31 @@ fn times_tag(src: &[u8], at: usize) -> Run
     Run::Upto(n)
 }
 
+// Whether a tag with times begins after a `<`: in an archive, with `T` and a space.
+fn begins_times(src: &[u8], archive: bool, at: usize) -> bool
+    requires { ⌜ at ≤ length (now src) ⌝ }
+    ensures { λ r. ⌜ r ≡ beginsTimes archive (getD (now (src .entry)) at 0) (getD (now (src .entry)) (at + 1) 0) ⌝ }
+{
+    if !archive {
+        return false;
+    }
+    if byte_at(src, at) != b'T' {
+        return false;
+    }
+    byte_at(src, at + 1) == b' '
+}
+
 // A start tag after its `<`.
 pub(crate) fn start_tag(src: &[u8], archive: bool, at: usize) -> Start
     requires { ⌜ at ≤ length (now src) ⌝ }
     ensures { λ r. ⌜ StartRead archive (drop at (now (src .entry))) r ⌝ }
 {
+    if begins_times(src, archive, at) {
+        match times_tag(src, at + 1) {
+            Run::Upto(k) => return Start::Timed(k),
+            Run::Stop(k) => return Start::Off(k),
+        }
+    }
     let n = name_len(src, at);
     if n == 0 {
         return Start::Off(1);
@@ -343,25 +370,13 @@ pub(crate) fn start_tag(src: &[u8], archive: bool, at: usize) -> Start
     if b == b'>' {
         return Start::Opens(n);
     }
-    if b == b'/' {
-        if byte_at(src, at + n + 1) == b'>' {
-            return Start::Lone(n);
-        }
+    if b != b'/' {
+        return Start::Off(1 + n);
+    }
+    if byte_at(src, at + n + 1) != b'>' {
         return Start::Off(2 + n);
     }
-    if !archive {
-        return Start::Off(1 + n);
-    }
-    if n != 1 {
-        return Start::Off(1 + n);
-    }
-    if byte_at(src, at) != b'T' {
-        return Start::Off(1 + n);
-    }
-    match times_tag(src, at + 1) {
-        Run::Upto(k) => Start::Timed(k),
-        Run::Stop(k) => Start::Off(k),
-    }
+    Start::Lone(n)
 }
 
 // An end tag after its `</`: a name, and `>`.

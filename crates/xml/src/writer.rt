@@ -10,7 +10,7 @@ ghost use mathlib.Core.List.{[], _∷_};
 ghost use Prim.Native.Nat.{ℕ, _+_, _-_, _%_, _^_, _<_, _≤_, min};
 ghost use lib.ListN.{length};
 ghost use lib.Seq.{slice};
-ghost use Rattle.xml.specs.Over.{over, Wrote};
+ghost use Rattle.xml.specs.Over.{over, overAt, Wrote};
 ghost use Rattle.xml.specs.Forest.{Forest, escape, write as written};
 ghost use Rattle.xml.specs.Signs.{spelt};
 ghost use Rattle.xml.specs.Tape.{headAt, nextAt, Tape, Valid, Writes};
@@ -39,26 +39,37 @@ pub fn put(b: u8, out: &mut [u8], at: usize) -> usize
     at + 1
 }
 
+// Copies src[a..a + count] into `out` from a place on, where all of it fits.
+fn copy(src: &[u8], a: usize, count: usize, out: &mut [u8], from: usize)
+    requires { ⌜ (a + count ≤ length (now src)) × (from + count ≤ length (now out)) ⌝ }
+    ensures { λ r. ⌜ now (out .exit) ≡ overAt (now (out .entry)) from (slice a (a + count) (now (src .entry))) ⌝ }
+{
+    let mut i = 0;
+    while i < count {
+        out[from + i] = src[a + i];
+        i += 1;
+    }
+}
+
 // Writes src[a..e]: what fits is counted once, and copied with no further test.
 pub fn put_part(src: &[u8], a: usize, e: usize, out: &mut [u8], at: usize) -> usize
     requires { ⌜ (a ≤ e) × (e ≤ length (now src)) × (e - a ≤ 32768) × (at < 2 ^ 62) ⌝ }
     ensures { λ r. ⌜ Wrote (now (out .entry)) at (slice a e (now (src .entry))) r (now (out .exit)) ⌝ }
 {
     let from = least(at, out.len());
-    let count = least(e - a, out.len() - from);
-    let mut i = 0;
-    while i < count {
-        out[from + i] = src[a + i];
-        i += 1;
-    }
+    copy(src, a, least(e - a, out.len() - from), out, from);
     at + (e - a)
 }
 
-// Writes the whole of `word`.
+// Writes the whole of `word`: most often it fits, and the compiler knows how long it is.
 pub fn put_word(word: &[u8], out: &mut [u8], at: usize) -> usize
     requires { ⌜ (length (now word) ≤ 32768) × (at < 2 ^ 62) ⌝ }
     ensures { λ r. ⌜ Wrote (now (out .entry)) at (now (word .entry)) r (now (out .exit)) ⌝ }
 {
+    if at + word.len() <= out.len() {
+        copy(word, 0, word.len(), out, at);
+        return at + word.len();
+    }
     put_part(word, 0, word.len(), out, at)
 }
 

@@ -8,13 +8,13 @@ use Rattle.keys.proofs.load.row_len.Statement.{statement}
 use Rattle.keys.proofs.load.row_len.Tie as tie
 
 abbrev Inv-loop : tie.InvT-loop
-Inv-loop text from end d i₀ k₀ i k = Rowed d text end i × (k ≤ i) × Counted d text end from i k
+Inv-loop text from end i₀ k₀ i k = Rowed 2 text end i × (k ≤ i) × Counted 2 text end from i k
 
 abbrev μ-loop : tie.MeasureT-loop
-μ-loop text from end d i₀ k₀ i k = end - i
+μ-loop text from end i₀ k₀ i k = end - i
 
 loop-holds : tie.Need-loop-holds Inv-loop μ-loop
-loop-holds c = (c .before .pre .0, omega arith, count-starts)
+loop-holds c = (c .before .pre, omega arith, count-starts)
 
 add-loop : tie.Need-add-loop Inv-loop μ-loop
 add-loop c = omega (arith, row-from (c .loop .inv .0 .row))

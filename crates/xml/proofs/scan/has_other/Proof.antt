@@ -12,10 +12,10 @@ use Rattle.xml.proofs.scan.has_other.Statement.{statement}
 use Rattle.xml.proofs.scan.has_other.Tie as tie
 
 abbrev Inv-loop : tie.InvT-loop
-Inv-loop src at hit₀ far₀ i₀ hit far i = (i ≤ 16) × (hit ≡ false → Each isMarked false src at (at + i)) × (far ≡ false → Each isFar false src at (at + i))
+Inv-loop src at count hit₀ far₀ i₀ hit far i = (i ≤ count) × (hit ≡ false → Each isMarked false src at (at + i)) × (far ≡ false → Each isFar false src at (at + i))
 
 abbrev μ-loop : tie.MeasureT-loop
-μ-loop src at hit₀ far₀ i₀ hit far i = 16 - i
+μ-loop src at count hit₀ far₀ i₀ hit far i = count - i
 
 loop-holds : tie.Need-loop-holds Inv-loop μ-loop
 loop-holds c = (omega arith, λ h. each-none (omega arith), λ h. each-none (omega arith))

@@ -6,30 +6,34 @@ use native.Mathlib.Nat.{add-zero, zero-add}
 use native.Mathlib.Omega.{arith}
 use borrow.Author.Needs.{needs}
 use borrow.Author.Tests.{ltb-true, ltb-false, not-true, not-false}
+use lib.Dec.{ltb}
 use lib.ListN.{length, drop}
 use Rattle.xml.specs.Read.{nameRest}
 use Rattle.xml.specs.ScanLaws.{nameRest-none, nameRest-end, nameRest-stop, nameRest-more}
+use Rattle.xml.specs.Truth.{by-test}
 use Rattle.xml.proofs.scan.name_rest.Statement.{statement}
 use Rattle.xml.proofs.scan.name_rest.Tie as tie
 
 abbrev Inv-loop : tie.InvT-loop
-Inv-loop src at n₀ n =
-    (n ≤ 31) × (at + n ≤ length src) × (nameRest 31 (drop at src) ≡ n + nameRest (31 - n) (drop (at + n) src))
+Inv-loop src at count n₀ n = (n ≤ count) × (nameRest 31 (drop at src) ≡ n + nameRest (31 - n) (drop (at + n) src))
 
 abbrev μ-loop : tie.MeasureT-loop
-μ-loop src at n₀ n = 31 - n
+μ-loop src at count n₀ n = count - n
+
+sub-least : tie.Need-sub-least Inv-loop μ-loop
+sub-least c = omega arith
+
+least-requires : tie.Need-least-requires Inv-loop μ-loop
+least-requires c κs = search needs
 
 loop-holds : tie.Need-loop-holds Inv-loop μ-loop
-loop-holds c = (omega arith, omega arith, simp (zero-add, add-zero))
-
-add-if1 : tie.Need-add-if1 Inv-loop μ-loop
-add-if1 c = omega (arith, ltb-true)
+loop-holds c = (omega arith, simp (zero-add, add-zero))
 
 add-is-name-byte : tie.Need-add-is-name-byte Inv-loop μ-loop
-add-is-name-byte c = omega (arith, ltb-true)
+add-is-name-byte c = omega (arith, c .before .before .least .ensures)
 
 shared-slice-read-is-name-byte : tie.Need-shared-slice-read-is-name-byte Inv-loop μ-loop
-shared-slice-read-is-name-byte c = omega (arith, ltb-true)
+shared-slice-read-is-name-byte c = omega (arith, c .before .before .before .least .ensures)
 
 is-name-byte-requires : tie.Need-is-name-byte-requires Inv-loop μ-loop
 is-name-byte-requires c κs = search needs
@@ -38,44 +42,41 @@ returns : tie.Need-returns Inv-loop μ-loop
 returns c =
     let src = c .before .before .before .before .before .before .before .args .src .now in
     let at = c .before .before .before .before .before .before .before .args .at in
-    let n = c .before .before .before .before .before .loop .n in
+    let n = c .before .before .before .before .loop .n in
     let k = c .before .is-name-byte in
-    let h : at + n < length src = omega (arith, ltb-true) in
-    omega (arith, nameRest-stop src (at + n) (31 - n) h (sym (k .ensures) ∙ not-true (k .result) (c .if2 .taken)))
+    let h : at + n < length src = omega (arith, c .before .before .before .before .before .least .ensures) in
+    omega (arith, nameRest-stop src (at + n) (31 - n) h (sym (k .ensures) ∙ not-true (k .result) (c .if1 .taken)))
 
 add-n : tie.Need-add-n Inv-loop μ-loop
-add-n c = omega (arith, ltb-true)
+add-n c = omega arith
 
 loop-less : tie.Need-loop-less Inv-loop μ-loop
-loop-less c = omega (arith, ltb-true)
+loop-less c = omega arith
 
 loop-again : tie.Need-loop-again Inv-loop μ-loop
 loop-again c =
     let src = c .before .before .before .before .before .before .before .args .src .now in
     let at = c .before .before .before .before .before .before .before .args .at in
-    let n = c .before .before .before .before .before .loop .n in
+    let n = c .before .before .before .before .loop .n in
     let k = c .before .is-name-byte in
-    let h : at + n < length src = omega (arith, ltb-true) in
+    let h : at + n < length src = omega (arith, c .before .before .before .before .before .least .ensures) in
+    let few : n < 31 = omega (arith, c .before .before .before .before .before .least .ensures) in
     let more =
     nameRest-more src (at + n) (31 - n) (31 - (n + 1)) (at + (n + 1)) h
-    (sym (k .ensures) ∙ not-false (k .result) (c .if2 .left)) (omega arith) (omega arith)
+    (sym (k .ensures) ∙ not-false (k .result) (c .if1 .left)) (omega arith) (omega arith)
     in
-    (omega arith, omega arith, omega arith)
+    (omega arith, omega arith)
 
 returns-2 : tie.Need-returns-2 Inv-loop μ-loop
 returns-2 c =
     let src = c .before .before .before .before .args .src .now in
     let at = c .before .before .before .before .args .at in
-    let n = c .before .before .loop .n in
-    omega (arith, nameRest-end src (at + n) (31 - n) (omega (arith, ltb-false)))
-
-returns-3 : tie.Need-returns-3 Inv-loop μ-loop
-returns-3 c =
-    let src = c .before .before .before .args .src .now in
-    let at = c .before .before .before .args .at in
     let n = c .before .loop .n in
-    let e : 31 - n ≡ 0 = omega arith in
-    omega (arith, ap (λ (r : ℕ). nameRest r (drop (at + n) src)) e, nameRest-none (drop (at + n) src))
+    by-test (ltb n 31)
+    (λ t. omega (arith, nameRest-end src (at + n) (31 - n) (omega (arith, ltb-true n 31 t, c .before .before .least .ensures))))
+    (λ t.
+    let e : 31 - n ≡ 0 = omega (arith, ltb-false n 31 t) in
+    omega (arith, ap (λ (r : ℕ). nameRest r (drop (at + n) src)) e, nameRest-none (drop (at + n) src)))
 
 pub name-rest-spec : {M : Type 1} → statement M
 name-rest-spec =
@@ -83,8 +84,9 @@ name-rest-spec =
     (tie.spec
     Inv-loop
     μ-loop
+    sub-least
+    least-requires
     loop-holds
-    add-if1
     add-is-name-byte
     shared-slice-read-is-name-byte
     is-name-byte-requires
@@ -92,5 +94,4 @@ name-rest-spec =
     add-n
     loop-less
     loop-again
-    returns-2
-    returns-3)
+    returns-2)
