@@ -19,7 +19,7 @@ ghost use Rattle.firmware.specs.Told.{Told};
 
 // Founds an archive from a version of at most 1,024 bytes.
 pub fn found_short(keys: &[u8], version: &[u8], out: &mut [u8]) -> Answer
-    requires { ⌜ length (now version) ≤ 1024 ⌝ }
+    requires { ⌜ length (now version) ≤ 2048 ⌝ }
     ensures { λ r. ⌜ Told (foundOf (now (keys .entry)) (now (version .entry)) (length (now (out .entry))) 16384)
         (now (out .entry)) (r .number) (r .length) (now (out .exit)) ⌝ }
 {
@@ -38,7 +38,7 @@ pub fn found_long(keys: &[u8], version: &[u8], out: &mut [u8]) -> Answer
 
 // Adds a version to an archive, each of at most 1,024 bytes.
 pub fn add_short(keys: &[u8], archive: &[u8], version: &[u8], out: &mut [u8]) -> Answer
-    requires { ⌜ (length (now archive) ≤ 1024) × (length (now version) ≤ 1024) ⌝ }
+    requires { ⌜ (length (now archive) ≤ 2048) × (length (now version) ≤ 2048) ⌝ }
     ensures { λ r. ⌜ Told (addOf (now (keys .entry)) (now (version .entry)) (now (archive .entry)) (length (now (out .entry))) 16384)
         (now (out .entry)) (r .number) (r .length) (now (out .exit)) ⌝ }
 {
@@ -57,7 +57,7 @@ pub fn add_long(keys: &[u8], archive: &[u8], version: &[u8], out: &mut [u8]) -> 
 
 // Retrieves version i of an archive of at most 1,024 bytes.
 pub fn retrieve_short(keys: &[u8], archive: &[u8], i: usize, out: &mut [u8]) -> Answer
-    requires { ⌜ length (now archive) ≤ 1024 ⌝ }
+    requires { ⌜ length (now archive) ≤ 2048 ⌝ }
     ensures { λ r. ⌜ Told (retrieveOf (now (keys .entry)) (now (archive .entry)) i (length (now (out .entry))) 16384)
         (now (out .entry)) (r .number) (r .length) (now (out .exit)) ⌝ }
 {
@@ -76,7 +76,7 @@ pub fn retrieve_long(keys: &[u8], archive: &[u8], i: usize, out: &mut [u8]) -> A
 
 // Gives the history of an address in an archive of at most 1,024 bytes.
 pub fn history_short(keys: &[u8], archive: &[u8], address: &[u8], out: &mut [u8]) -> Answer
-    requires { ⌜ length (now archive) ≤ 1024 ⌝ }
+    requires { ⌜ length (now archive) ≤ 2048 ⌝ }
     ensures { λ r. ⌜ Told (historyOf (now (keys .entry)) (now (archive .entry)) (now (address .entry)) (length (now (out .entry))) 16384)
         (now (out .entry)) (r .number) (r .length) (now (out .exit)) ⌝ }
 {
@@ -95,7 +95,7 @@ pub fn history_long(keys: &[u8], archive: &[u8], address: &[u8], out: &mut [u8])
 
 // Steps an archive of at most 1,024 bytes back to version i.
 pub fn back_short(keys: &[u8], archive: &[u8], i: usize, out: &mut [u8]) -> Answer
-    requires { ⌜ length (now archive) ≤ 1024 ⌝ }
+    requires { ⌜ length (now archive) ≤ 2048 ⌝ }
     ensures { λ r. ⌜ Told (stepBackOf (now (keys .entry)) (now (archive .entry)) i (length (now (out .entry))) 16384)
         (now (out .entry)) (r .number) (r .length) (now (out .exit)) ⌝ }
 {

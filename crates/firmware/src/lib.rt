@@ -22,7 +22,7 @@ ghost use Rattle.firmware.specs.Told.{Told};
 const CELLS: usize = 16384;
 
 // The work cells of an entry whose texts have at most as many bytes: they ask for no more.
-const FEW: usize = 1024;
+const FEW: usize = 2048;
 
 // Checks a key list.
 #[no_mangle]

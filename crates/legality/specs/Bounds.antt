@@ -71,7 +71,7 @@ bytes-lacking : (v : ℕ) (s : Bytes) (k : Forest) → belongs v s ≡ false →
 unfolding write
 bytes-lacking v s k e = ap (λ (f : Forest). length (write f)) (pick-lacks v s k e)
 
-no-and : (b : Bool) → (b && false) ≡ false
+pub no-and : (b : Bool) → (b && false) ≡ false
 no-and true = refl
 no-and false = refl
 

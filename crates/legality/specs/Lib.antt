@@ -5,6 +5,7 @@ pub mod Layered
 pub mod Parted
 pub mod SmallLaws
 pub mod Bounds
+pub mod Few
 pub mod Opened
 pub mod Seen
 pub mod Folded

@@ -1,4 +1,6 @@
 // What a frontier holds: one content, or two or more that share its versions.
+use crate::few::are_few;
+use crate::few::few_legal;
 use crate::mark::mark;
 use crate::times::scan_at;
 use timestamp::Timestamp;
@@ -219,6 +221,9 @@ pub fn front_legal(
     }
     let v = view_at(tape, lo);
     if v.kind == 2 {
+        if are_few(src, tape, lo, hi) {
+            return few_legal(src, tape, lo, hi, n, times);
+        }
         return branches_legal(src, tape, lo, hi, n, times);
     }
     is_untimed(src, tape, lo, hi)

@@ -1,5 +1,6 @@
 // Is a text a legal archive? It is read, and judged in one walk.
 mod bounds;
+mod few;
 pub mod front;
 pub mod legal;
 pub mod mark;
