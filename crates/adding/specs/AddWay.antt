@@ -25,7 +25,7 @@ use Rattle.keys.specs.Table.{placeOf, Table}
 use Rattle.timestamp.specs.Times.{Times}
 use Rattle.versions.specs.Walk.{firstLabel, newest, addContent, addNew, addIn}
 use Rattle.versions.specs.Sizes.{nodes-join}
-use Rattle.versions.specs.AddParts.{Holds, sibling, setIn, oldPart, bothPart, opened, closed, inside, orderOf, SiblingsIn, VersionIn, placeIn, At}
+use Rattle.versions.specs.AddParts.{Says, sibling, setIn, oldPart, bothPart, opened, closed, inside, orderOf, SiblingsIn, VersionIn, placeIn, At}
 use Rattle.adding.specs.Growth.{Grew}
 use Rattle.versions.specs.AddTurns.{First, first-sibling, Next, next-element, turn-old, turn-both, turn-new, alike, nodes-new}
 use Rattle.versions.specs.AddFront.{wrote-join, plain-count}
@@ -147,8 +147,8 @@ module _ {src cells : List ℕ} {p hi : ℕ} {vsrc vcells : List ℕ} {q vhi n :
       }
 
   -- the sibling that both have
-  pub both-of : {text : Bytes} {table : List ℕ} {n-paths place : ℕ} {words : List ℕ} (l : p < hi) (u : q < vhi) → orderAt l ≡ 1 → Table text table n-paths K → placeOf K w ≡ place → Holds n words t
-      → Both text table n-paths place src cells p vsrc vcells q n words K w t (nextOf l .own) (nextOf l .name) (nextOf l .kids) (otherOf u .kids)
+  pub both-of : {text : Bytes} {table : List ℕ} {n-paths place a e : ℕ} (l : p < hi) (u : q < vhi) → orderAt l ≡ 1 → Table text table n-paths K → placeOf K w ≡ place → Says n src a e t
+      → Both text table n-paths place src cells p vsrc vcells q n a e K w t (nextOf l .own) (nextOf l .name) (nextOf l .kids) (otherOf u .kids)
   unfolding untimed
   both-of l u e a b c =
       let s = nextOf l in
@@ -217,9 +217,9 @@ room-more to {p = p} {p′ = p′} {hi = hi} {q = q} {q′ = q′} {vhi = vhi} h
     room-step to (hi - p′) (p′ - p) (vhi - q′) (q′ - q) (hi - p) (vhi - q) (omega (arith, a, b)) (omega (arith, c, d)) h g
 
 -- what a sibling that both have holds
-pub inner-held : {text : Bytes} {table : List ℕ} {n-paths place own : ℕ} {src cells : List ℕ} {p : ℕ} {vsrc vcells : List ℕ} {q n : ℕ} {words set : List ℕ} {K : KeyList} {w : Path} {t : Times}
-    {o : Option Bytes} {m : Bytes} {k g : Forest} → Both text table n-paths place src cells p vsrc vcells q n words K w t o m k g → own ≡ placeOf K (w ▸ m) → Holds n set (setIn n t o)
-    → Held text table n-paths own src cells (placeIn o p + 1) (nextAt cells (placeIn o p)) vsrc vcells (q + 1) (nextAt vcells q) n set K (w ▸ m) (setIn n t o) k g
+pub inner-held : {text : Bytes} {table : List ℕ} {n-paths place own : ℕ} {src cells : List ℕ} {p : ℕ} {vsrc vcells : List ℕ} {q n a e b d : ℕ} {K : KeyList} {w : Path} {t : Times}
+    {o : Option Bytes} {m : Bytes} {k g : Forest} → Both text table n-paths place src cells p vsrc vcells q n a e K w t o m k g → own ≡ placeOf K (w ▸ m) → Says n src b d (setIn n t o)
+    → Held text table n-paths own src cells (placeIn o p + 1) (nextAt cells (placeIn o p)) vsrc vcells (q + 1) (nextAt vcells q) n b d K (w ▸ m) (setIn n t o) k g
 inner-held b e s =
     record { tabled = b .tabled; place-is = sym e; tape = b .at .inner; vtape = b .vinner; siblings = b .siblings; front = b .front; version = b .version; plain = b .plain; set = s }
 

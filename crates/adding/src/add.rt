@@ -7,6 +7,7 @@ use crate::sibling::order_of;
 use crate::sibling::set_of;
 use crate::sibling::write_new;
 use crate::sibling::write_old;
+use keys::places::Part;
 use keys::places::child;
 use keys::places::is_above;
 use timestamp::Timestamp;
@@ -45,14 +46,14 @@ fn write_both(
     vtape: &[u32],
     q: usize,
     n: usize,
-    around: Timestamp,
+    around: Part,
     out: &mut [u8],
     at: usize,
 ) -> Added
-    requires { ⌜ SomeBoth (now text) (now table) paths place (now src) (now tape) p (now vsrc) (now vtape) q n (around .words) × (n ≤ 998)
+    requires { ⌜ SomeBoth (now text) (now table) paths place (now src) (now tape) p (now vsrc) (now vtape) q n (around .start) (around .end) × (n ≤ 998)
         × (nextAt (now tape) p ≤ 2 ^ 32) × (nextAt (now vtape) q ≤ 2 ^ 32) × (at + 262144 * (nextAt (now tape) p - p + (nextAt (now vtape) q - q)) < 2 ^ 58) ⌝ }
     ensures { λ r. ⌜ ((K : KeyList) (w : Path) (t : Times) (o : Option Bytes) (m : Bytes) (k g : Forest)
-        → Both (now (text .entry)) (now (table .entry)) paths place (now (src .entry)) (now (tape .entry)) p (now (vsrc .entry)) (now (vtape .entry)) q n (around .words) K w t o m k g
+        → Both (now (text .entry)) (now (table .entry)) paths place (now (src .entry)) (now (tape .entry)) p (now (vsrc .entry)) (now (vtape .entry)) q n (around .start) (around .end) K w t o m k g
         → Grew (now (out .entry)) at (bothPart n o m (inside K n (w ▸ m) (setIn n t o) k g)) (sibling o m k) (nextAt (now (vtape .entry)) q - q)
         (262144 * (nextAt (now (tape .entry)) p - p + (nextAt (now (vtape .entry)) q - q))) r (now (out .exit))) ⌝ }
 {
@@ -61,7 +62,7 @@ fn write_both(
     let v = view_at(tape, e);
     let w = view_at(vtape, q);
     let own = child(text, table, paths, place, src, v.start, v.end);
-    let tag = open_set(tape, p, set, n, out, at);
+    let tag = open_set(src, tape, p, set, n, out, at);
     let inside = put_open(true, src, v.start, v.end, out, tag);
     let x = write_added(
         text,
@@ -104,14 +105,14 @@ pub fn write_added(
     vlo: usize,
     vhi: usize,
     n: usize,
-    around: Timestamp,
+    around: Part,
     out: &mut [u8],
     at: usize,
 ) -> Added
-    requires { ⌜ SomeHeld (now text) (now table) paths place (now src) (now tape) lo hi (now vsrc) (now vtape) vlo vhi n (around .words) × (n ≤ 998)
+    requires { ⌜ SomeHeld (now text) (now table) paths place (now src) (now tape) lo hi (now vsrc) (now vtape) vlo vhi n (around .start) (around .end) × (n ≤ 998)
         × (hi ≤ 2 ^ 32) × (vhi ≤ 2 ^ 32) × (at + (262144 * (hi - lo + (vhi - vlo)) + 32768) < 2 ^ 58) ⌝ }
     ensures { λ r. ⌜ ((K : KeyList) (w : Path) (t : Times) (f v : Forest)
-        → Held (now (text .entry)) (now (table .entry)) paths place (now (src .entry)) (now (tape .entry)) lo hi (now (vsrc .entry)) (now (vtape .entry)) vlo vhi n (around .words) K w t f v
+        → Held (now (text .entry)) (now (table .entry)) paths place (now (src .entry)) (now (tape .entry)) lo hi (now (vsrc .entry)) (now (vtape .entry)) vlo vhi n (around .start) (around .end) K w t f v
         → Grew (now (out .entry)) at (inside K n w t f v) f (vhi - vlo) (262144 * (hi - lo + (vhi - vlo)) + 32768) r (now (out .exit))) ⌝ }
 {
     if !is_above(table, paths, place) {
@@ -187,7 +188,11 @@ pub fn add(
         → Grew (now (out .entry)) at (addForest K n v f) f vhi (262144 * (hi + vhi) + 65536) r (now (out .exit))) ⌝ }
 {
     let inside = put_times(Timestamp::up_to(n + 1), out, at);
-    let around = Timestamp::up_to(n);
+    let v = view_at(tape, 0);
+    let around = Part {
+        start: v.start,
+        end: v.end,
+    };
     let x = write_added(
         text,
         table,

@@ -1,20 +1,22 @@
 // Adding a version's content to what a frontier of the archive holds.
-use timestamp::Timestamp;
+use crate::timed::put_more;
+use crate::timed::put_within;
+use keys::places::Part;
 use walks::timed::put_newest;
-use walks::timed::put_timed;
-use walks::timed::read_times;
 use xml::compare::same_nodes;
 use xml::tape::view_at;
 use xml::writer::write_at;
 ghost use mathlib.Core.Path.{_≡_};
 ghost use mathlib.Core.Bool.{true};
 ghost use Prim.Native.Nat.{ℕ, _+_, _*_, _-_, _^_, _<_, _≤_};
+ghost use lib.ListN.{length};
 ghost use Rattle.xml.specs.Forest.{Forest};
 ghost use Rattle.xml.specs.Tape.{Tape, Valid};
 ghost use Rattle.keys.specs.Legal.{untimed};
 ghost use Rattle.timestamp.specs.Times.{Times};
 ghost use Rattle.versions.specs.Walk.{addBranch, addBare, addContent};
-ghost use Rattle.versions.specs.AddParts.{Holds, BranchesIn, FrontIn};
+ghost use Rattle.versions.specs.AddParts.{Says, BranchesIn, FrontIn};
+ghost use Rattle.versions.specs.AddFront.{SomeBranches, SomeFront};
 ghost use Rattle.adding.specs.Growth.{Grew};
 
 // The place after what was written, and how many nodes the version brought that the archive lacked.
@@ -37,7 +39,7 @@ fn write_branches(
     out: &mut [u8],
     at: usize,
 ) -> Added
-    requires { ⌜ Valid (now src) (now tape) lo hi × Valid (now vsrc) (now vtape) vlo vhi × (n ≤ 998) × (hi ≤ 2 ^ 32) × (vhi ≤ 2 ^ 32) × (at < 2 ^ 58) ⌝ }
+    requires { ⌜ SomeBranches n (now src) (now tape) lo hi × Valid (now vsrc) (now vtape) vlo vhi × (n ≤ 998) × (hi ≤ 2 ^ 32) × (vhi ≤ 2 ^ 32) × (at < 2 ^ 58) ⌝ }
     ensures { λ r. ⌜ ((f v : Forest) → Tape (now (src .entry)) (now (tape .entry)) lo hi f → Tape (now (vsrc .entry)) (now (vtape .entry)) vlo vhi v
         → BranchesIn n f → untimed v ≡ true
         → Grew (now (out .entry)) at (addBranch n v f) f (vhi - vlo) (262144 * (hi - lo + (vhi - vlo)) + 32768) r (now (out .exit))) ⌝ }
@@ -47,8 +49,7 @@ fn write_branches(
     while p < hi {
         let v = view_at(tape, p);
         if same_nodes(vsrc, vtape, vlo, vhi, src, tape, p + 1, v.next) {
-            let set = read_times(src, v.start, v.end);
-            let rest = put_timed(set.with(n + 1), src, tape, p + 1, v.next, out, to);
+            let rest = put_more(src, v.start, v.end, tape, p + 1, v.next, n, out, to);
             let last = write_at(src, tape, v.next, hi, out, rest);
             return Added { at: last, fresh: 0 };
         }
@@ -73,20 +74,20 @@ fn write_bare(
     vlo: usize,
     vhi: usize,
     n: usize,
-    around: Timestamp,
+    around: Part,
     out: &mut [u8],
     at: usize,
 ) -> Added
-    requires { ⌜ Valid (now src) (now tape) lo hi × Valid (now vsrc) (now vtape) vlo vhi × (n ≤ 998) × (hi ≤ 2 ^ 32) × (vhi ≤ 2 ^ 32) × (at < 2 ^ 58) ⌝ }
+    requires { ⌜ Valid (now src) (now tape) lo hi × (around .start ≤ around .end) × (around .end ≤ length (now src)) × (around .end - around .start ≤ 3000) × Valid (now vsrc) (now vtape) vlo vhi × (n ≤ 998) × (hi ≤ 2 ^ 32) × (vhi ≤ 2 ^ 32) × (at < 2 ^ 58) ⌝ }
     ensures { λ r. ⌜ ((t : Times) (f v : Forest) → Tape (now (src .entry)) (now (tape .entry)) lo hi f → Tape (now (vsrc .entry)) (now (vtape .entry)) vlo vhi v
-        → untimed v ≡ true → Holds n (around .words) t
+        → untimed v ≡ true → Says n (now (src .entry)) (around .start) (around .end) t
         → Grew (now (out .entry)) at (addBare n t v f) f (vhi - vlo) (262144 * (hi - lo + (vhi - vlo)) + 32768) r (now (out .exit))) ⌝ }
 {
     if same_nodes(vsrc, vtape, vlo, vhi, src, tape, lo, hi) {
         let last = write_at(src, tape, lo, hi, out, at);
         return Added { at: last, fresh: 0 };
     }
-    let to = put_timed(around, src, tape, lo, hi, out, at);
+    let to = put_within(src, around.start, around.end, tape, lo, hi, out, at);
     let last = put_newest(n, vsrc, vtape, vlo, vhi, out, to);
     Added {
         at: last,
@@ -105,13 +106,13 @@ pub fn write_contents(
     vlo: usize,
     vhi: usize,
     n: usize,
-    around: Timestamp,
+    around: Part,
     out: &mut [u8],
     at: usize,
 ) -> Added
-    requires { ⌜ Valid (now src) (now tape) lo hi × Valid (now vsrc) (now vtape) vlo vhi × (n ≤ 998) × (hi ≤ 2 ^ 32) × (vhi ≤ 2 ^ 32) × (at < 2 ^ 58) ⌝ }
+    requires { ⌜ SomeFront n (now src) (now tape) lo hi × (around .start ≤ around .end) × (around .end ≤ length (now src)) × (around .end - around .start ≤ 3000) × Valid (now vsrc) (now vtape) vlo vhi × (n ≤ 998) × (hi ≤ 2 ^ 32) × (vhi ≤ 2 ^ 32) × (at < 2 ^ 58) ⌝ }
     ensures { λ r. ⌜ ((t : Times) (f v : Forest) → Tape (now (src .entry)) (now (tape .entry)) lo hi f → Tape (now (vsrc .entry)) (now (vtape .entry)) vlo vhi v
-        → FrontIn n f → untimed v ≡ true → Holds n (around .words) t
+        → FrontIn n f → untimed v ≡ true → Says n (now (src .entry)) (around .start) (around .end) t
         → Grew (now (out .entry)) at (addContent n t v f) f (vhi - vlo) (262144 * (hi - lo + (vhi - vlo)) + 32768) r (now (out .exit))) ⌝ }
 {
     if lo < hi {

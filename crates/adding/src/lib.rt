@@ -2,3 +2,4 @@
 pub mod add;
 pub mod content;
 pub mod sibling;
+pub mod timed;

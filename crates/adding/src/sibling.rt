@@ -1,11 +1,10 @@
 // A sibling of the archive where a version is added: an element, bare or in a `T` of its own.
+use crate::timed::put_grown;
+use crate::timed::put_within;
 use keys::label::compare_labels;
-use timestamp::Timestamp;
+use keys::places::Part;
 use walks::history::element_at;
 use walks::timed::put_newest;
-use walks::timed::put_timed;
-use walks::timed::put_times;
-use walks::timed::read_times;
 use xml::tape::view_at;
 use xml::writer::put_word;
 use xml::writer::write_at;
@@ -14,6 +13,7 @@ ghost use mathlib.Core.Option.{Option};
 ghost use mathlib.Core.List.{List};
 ghost use Prim.Native.Nat.{ℕ, _+_, _*_, _-_, _^_, _<_, _≤_};
 ghost use lib.ListN.{length};
+ghost use lib.Seq.{slice};
 ghost use Rattle.xml.specs.Bytes.{Bytes};
 ghost use Rattle.xml.specs.Over.{Wrote};
 ghost use Rattle.xml.specs.Forest.{Forest, write};
@@ -22,39 +22,44 @@ ghost use Rattle.keys.specs.KeyList.{Path, KeyList};
 ghost use Rattle.keys.specs.Version.{label};
 ghost use Rattle.keys.specs.Placed.{OfPlace};
 ghost use Rattle.timestamp.specs.Times.{Times};
+ghost use Rattle.timestamp.specs.Place.{IsSetTo};
 ghost use Rattle.versions.specs.Walk.{firstLabel, addNew};
-ghost use Rattle.versions.specs.AddParts.{Holds, setIn, oldPart, opened, closed, orderOf, SetOf, VersionIn, At};
+ghost use Rattle.versions.specs.AddParts.{Says, setIn, oldPart, opened, closed, orderOf, SetOf, VersionIn, At};
 ghost use Rattle.versions.specs.AddWalk.{SomeNext};
 
-// Its set, in an element that stands in the versions `around`.
-pub fn set_of(src: &[u8], tape: &[u32], p: usize, around: Timestamp) -> Timestamp
+// The text of its set, in an element that stands in the versions `around`.
+pub fn set_of(src: &[u8], tape: &[u32], p: usize, around: Part) -> Part
     requires { ⌜ (2 * p + 1 < length (now tape)) × (endIn (headAt (now tape) p) ≤ length (now src)) ⌝ }
     ensures { λ r. ⌜ ((n : ℕ) (t : Times) (o : Option Bytes) (m : Bytes) (k : Forest) → n ≤ 999 → At (now (src .entry)) (now (tape .entry)) p o m k
-        → SetOf n o → Holds n (around .words) t → Holds n (r .words) (setIn n t o)) ⌝ }
+        → SetOf n o → Says n (now (src .entry)) (around .start) (around .end) t → Says n (now (src .entry)) (r .start) (r .end) (setIn n t o)) ⌝ }
 {
     let v = view_at(tape, p);
     if v.kind == 2 {
-        return read_times(src, v.start, v.end);
+        return Part {
+            start: v.start,
+            end: v.end,
+        };
     }
     around
 }
 
-// Writes the opening tag of its `T`, if it has one, with the set and n + 1.
+// Writes the opening tag of its `T`, if it has one, with the set of this text and n + 1.
 pub fn open_set(
+    src: &[u8],
     tape: &[u32],
     p: usize,
-    set: Timestamp,
+    set: Part,
     n: usize,
     out: &mut [u8],
     at: usize,
 ) -> usize
-    requires { ⌜ (2 * p + 1 < length (now tape)) × (n ≤ 998) × (at < 2 ^ 59) ⌝ }
-    ensures { λ r. ⌜ ((src : List ℕ) (o : Option Bytes) (m : Bytes) (k : Forest) (t : Times) → At src (now (tape .entry)) p o m k → Holds n (set .words) t
+    requires { ⌜ (2 * p + 1 < length (now tape)) × (set .start ≤ set .end) × (set .end ≤ length (now src)) × (set .end - set .start ≤ 3000) × IsSetTo n (slice (set .start) (set .end) (now src)) × (n ≤ 998) × (at < 2 ^ 59) ⌝ }
+    ensures { λ r. ⌜ ((o : Option Bytes) (m : Bytes) (k : Forest) (t : Times) → At (now (src .entry)) (now (tape .entry)) p o m k → Says n (now (src .entry)) (set .start) (set .end) t
         → Wrote (now (out .entry)) at (opened t o) r (now (out .exit))) × (r ≤ at + 3008) ⌝ }
 {
     let v = view_at(tape, p);
     if v.kind == 2 {
-        return put_times(set.with(n + 1), out, at);
+        return put_grown(src, set.start, set.end, n, out, at);
     }
     at
 }
@@ -77,20 +82,20 @@ pub fn write_old(
     src: &[u8],
     tape: &[u32],
     p: usize,
-    around: Timestamp,
+    around: Part,
     out: &mut [u8],
     at: usize,
 ) -> usize
-    requires { ⌜ (p < nextAt (now tape) p) × Valid (now src) (now tape) p (nextAt (now tape) p) × (nextAt (now tape) p ≤ 2 ^ 32) × (at < 2 ^ 59) ⌝ }
+    requires { ⌜ (p < nextAt (now tape) p) × Valid (now src) (now tape) p (nextAt (now tape) p) × (nextAt (now tape) p ≤ 2 ^ 32) × (around .start ≤ around .end) × (around .end ≤ length (now src)) × (around .end - around .start ≤ 3000) × (at < 2 ^ 59) ⌝ }
     ensures { λ r. ⌜ ((n : ℕ) (t : Times) (o : Option Bytes) (m : Bytes) (k : Forest) → n ≤ 999 → At (now (src .entry)) (now (tape .entry)) p o m k
-        → Holds n (around .words) t → Wrote (now (out .entry)) at (write (oldPart t o m k)) r (now (out .exit)))
+        → Says n (now (src .entry)) (around .start) (around .end) t → Wrote (now (out .entry)) at (write (oldPart t o m k)) r (now (out .exit)))
         × (r ≤ at + 3012 + 163840 * (nextAt (now (tape .entry)) p - p)) ⌝ }
 {
     let v = view_at(tape, p);
     if v.kind == 2 {
         return write_at(src, tape, p, v.next, out, at);
     }
-    put_timed(around, src, tape, p, v.next, out, at)
+    put_within(src, around.start, around.end, tape, p, v.next, out, at)
 }
 
 // Writes the elements vlo to vhi of the version as what version n + 1 alone has.

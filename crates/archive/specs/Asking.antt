@@ -19,6 +19,7 @@ use Rattle.versions.specs.Archive.{lastVersion}
 use Rattle.versions.specs.Calls.{atMost, give}
 use Rattle.versions.specs.Walk.{forestLegal, archiveRead}
 use Rattle.versions.specs.AllTimed.{legal-last}
+use Rattle.versions.specs.Timely.{Timely, legal-timely}
 use Rattle.legality.specs.Opened.{ArchiveOn}
 use Rattle.archive.specs.Giving.{Gives, step-ok, test-refused, test-passed}
 
@@ -52,6 +53,11 @@ pub record Reaches (src cells : List ℕ) (hi i : ℕ) : Type 0 where
   pub count : ℕ
   pub lies : Lies src cells hi count
   pub reach : i ≤ count
+  pub some-there : 1 ≤ i
+
+-- so its `T`s have the texts of sets of versions
+pub reaches-timely : {src cells : List ℕ} {hi i : ℕ} → Reaches src cells hi i → Timely i src cells 0 hi
+reaches-timely {i = i} x = let a = x .lies .archive in legal-timely (x .lies .keys) (a .legal) (a .tape) (subst (λ k. i ≤ k) (sym (a .last)) (x .reach))
 
 -- what is no longer than a legal archive, written, is no longer than the archive's text
 pub reaches-short : {src cells : List ℕ} {hi i : ℕ} (w : Forest → Bytes) → ((K : KeyList) (f : Forest) → forestLegal K f ≡ true → i ≤ lastVersion f → length (w f) ≤ length (write f))

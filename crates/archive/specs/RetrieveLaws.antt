@@ -6,13 +6,14 @@ use mathlib.Core.List.{List}
 use lib.ListN.{length}
 use Rattle.xml.specs.Bytes.{Bytes}
 use Rattle.xml.specs.Forest.{Forest}
-use Rattle.xml.specs.Tape.{Tape, Valid}
+use Rattle.xml.specs.Tape.{Tape}
 use Rattle.keys.specs.Result.{_>>_}
 use Rattle.versions.specs.Calls.{answer, room, retrieve}
 use Rattle.versions.specs.Walk.{retrieveOn}
 use Rattle.versions.specs.WalkLaws.{retrieves}
+use Rattle.versions.specs.Timely.{Timely}
 use Rattle.versions.specs.VersionText.{versionText, pick-shorter}
-use Rattle.archive.specs.Asking.{askedIn, lies-few, Reaches, reaches-short}
+use Rattle.archive.specs.Asking.{askedIn, Reaches, reaches-timely, reaches-short}
 
 -- the call is the test for room, and the steps that follow it
 pub retrieve-steps : (keys s : Bytes) (i out work : ℕ) → retrieve keys s i out work ≡ answer (room work >> askedIn (versionText i) keys s i out)
@@ -20,10 +21,8 @@ unfolding retrieveOn versionText
 retrieve-steps keys s i out work = sym (retrieves keys s i out work)
 
 -- what the walk requires, for a version that is there
-pub version-asks : {src cells : List ℕ} {hi i : ℕ} → Reaches src cells hi i → Valid src cells 0 hi × (i < 1000) × (0 + 163840 * (hi - 0) < 2 ^ 61)
-version-asks x =
-    let a = x .lies .archive in
-    (record { forest = a .forest; tape = a .tape }, omega (arith, lies-few (x .lies), x .reach), omega (arith, a .few))
+pub version-asks : {src cells : List ℕ} {hi i : ℕ} → Reaches src cells hi i → Timely i src cells 0 hi × (0 + 163840 * (hi - 0) < 2 ^ 61)
+version-asks x = let a = x .lies .archive in (reaches-timely x, omega (arith, a .few))
 
 -- what it writes is no longer than the archive's text
 pub version-short : {src cells : List ℕ} {hi i : ℕ} → Reaches src cells hi i → (f : Forest) → Tape src cells 0 hi f → length (versionText i f) ≤ length src

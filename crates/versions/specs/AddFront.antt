@@ -47,6 +47,47 @@ module _ {src cells : List ℕ} {p q : ℕ} where
   pub valid-rest : Valid src cells p q → p < q → Valid src cells (nextAt cells p) q
   valid-rest x l = record { forest = split (x .tape) l .rest; tape = split (x .tape) l .after }
 
+-- ---- what is asked of a frontier: contents in their `T`s with legal sets, or one content
+pub record SomeBranches (n : ℕ) (src cells : List ℕ) (lo hi : ℕ) : Type 0 where
+  pub forest : Forest
+  pub tape : Tape src cells lo hi forest
+  pub legal : BranchesIn n forest
+
+pub record SomeFront (n : ℕ) (src cells : List ℕ) (lo hi : ℕ) : Type 0 where
+  pub forest : Forest
+  pub tape : Tape src cells lo hi forest
+  pub legal : FrontIn n forest
+
+module _ {n : ℕ} {src cells : List ℕ} {p q : ℕ} where
+  pub branches-valid : SomeBranches n src cells p q → Valid src cells p q
+  branches-valid x = record { forest = x .forest; tape = x .tape }
+
+  pub branches-set : SomeBranches n src cells p q → p < q → LegalSet n (bytesAt src cells p)
+  branches-set x l = go (x .tape) (x .legal) l
+    where
+      go : {f : Forest} → Tape src cells p q f → BranchesIn n f → p < q → LegalSet n (bytesAt src cells p)
+      go (at-end e) no-branch l = absurd (omega arith)
+      go (at-stamp d i r) (branch y o) l = rw (d .bytes-are) y
+
+  pub branches-rest : SomeBranches n src cells p q → p < q → SomeBranches n src cells (nextAt cells p) q
+  branches-rest x l = go (x .tape) (x .legal) l
+    where
+      go : {f : Forest} → Tape src cells p q f → BranchesIn n f → p < q → SomeBranches n src cells (nextAt cells p) q
+      go (at-end e) no-branch l = absurd (omega arith)
+      go (at-stamp {r = f} d i r) (branch y o) l = record { forest = f; tape = r; legal = o }
+
+  pub front-valid : SomeFront n src cells p q → Valid src cells p q
+  front-valid x = record { forest = x .forest; tape = x .tape }
+
+  pub front-branches : SomeFront n src cells p q → p < q → headAt cells p % 4 ≡ 2 → SomeBranches n src cells p q
+  front-branches x l k = go (x .tape) (x .legal) l
+    where
+      go : {f : Forest} → Tape src cells p q f → FrontIn n f → p < q → SomeBranches n src cells p q
+      go (at-end e) y l = absurd (omega arith)
+      go (at-text d u e r) y l = absurd (omega (arith, d .kind-is, k))
+      go (at-elem d i r) y l = absurd (omega (arith, d .kind-is, k))
+      go (at-stamp d i r) y l = record { forest = _; tape = at-stamp d i r; legal = y }
+
 -- ---- contents in their `T`s, on the way: those before node p are written as they stood
 pub record Passing (src cells : List ℕ) (p hi n : ℕ) (v whole first : Forest) (out : List ℕ) (at to : ℕ) (left : List ℕ) : Type 0 where
   pub rest : Forest

@@ -1,9 +1,11 @@
 -- Adding a version, part by part: a sibling of the archive by itself, what becomes of it, and what siblings a program can add to.
-use Prim.Native.Nat.{ℕ, _+_, _≤_}
+use Prim.Native.Nat.{ℕ, _+_, _-_, _≤_}
 use mathlib.Core.Path.{_≡_}
-use mathlib.Core.Bool.{true, false, _&&_}
+use mathlib.Core.Bool.{Bool, true, false, _&&_}
 use mathlib.Core.Option.{Option, none, some}
 use mathlib.Core.List.{List, [], _∷_, _++_}
+use lib.ListN.{length}
+use lib.Seq.{slice}
 use Rattle.xml.specs.Bytes.{Bytes}
 use Rattle.xml.specs.Forest.{Forest, end, elem, text, stamp, write, nodes}
 use Rattle.xml.specs.Tape.{nextAt, Node, Tape}
@@ -17,12 +19,23 @@ use Rattle.keys.specs.Ranks.{rank}
 use Rattle.timestamp.specs.Times.{Times, writeTimes}
 use Rattle.timestamp.specs.Set.{setOf}
 use Rattle.timestamp.specs.Listed.{listed, Only}
+use Rattle.timestamp.specs.Parse.{accepted, parsed}
 use Rattle.versions.specs.Walk.{timesIn, canonical, ever, addContent, addIn}
 
 -- the words hold the presence list t of n versions
 pub record Holds (n : ℕ) (words : List ℕ) (t : Times) : Type 0 where
   pub only : Only n (setOf words)
   pub listed-is : listed n (setOf words) ≡ t
+
+-- the text src[a..e] is that of a set of n versions, with the presence list t
+pub record Says (n : ℕ) (src : Bytes) (a e : ℕ) (t : Times) : Type 0 where
+  pub ordered : a ≤ e
+  pub within : e ≤ length src
+  pub short : e - a ≤ 3000
+  pub set : ℕ → Bool
+  pub is : parsed (slice a e src) ≡ accepted set
+  pub only : Only n set
+  pub listed-is : listed n set ≡ t
 
 -- ---- a sibling: the element m, which holds k, bare or in a `T` with its own text
 abbrev pub sibling : Option Bytes → Bytes → Forest → Forest

@@ -24,7 +24,7 @@ use Rattle.keys.specs.Ranks.{rank}
 use Rattle.keys.specs.Table.{placeOf, Table}
 use Rattle.timestamp.specs.Times.{Times}
 use Rattle.versions.specs.Walk.{firstLabel, newest, addNew}
-use Rattle.versions.specs.AddParts.{Holds, sibling, setIn, oldPart, bothPart, opened, closed, orderOf, SetOf, FrontIn, SiblingsIn, VersionIn, element, placeIn, At}
+use Rattle.versions.specs.AddParts.{Says, sibling, setIn, oldPart, bothPart, opened, closed, orderOf, SetOf, FrontIn, SiblingsIn, VersionIn, element, placeIn, At}
 use Rattle.versions.specs.HistoryTape.{elementAt, element-timed, element-bare}
 use Rattle.versions.specs.AddTurns.{Next, next-element, add-new}
 use Rattle.versions.specs.AddFront.{wrote-join, join-end}
@@ -57,7 +57,7 @@ at-forward (some s) a = (omega arith, omega (arith, tape-le (a .inner), a .ends)
 
 -- ---- what it asks
 -- of an element at the place: what it holds in the archive and in the version
-pub record Held (text : Bytes) (table : List ℕ) (n-paths place : ℕ) (src cells : List ℕ) (lo hi : ℕ) (vsrc vcells : List ℕ) (vlo vhi n : ℕ) (words : List ℕ)
+pub record Held (text : Bytes) (table : List ℕ) (n-paths place : ℕ) (src cells : List ℕ) (lo hi : ℕ) (vsrc vcells : List ℕ) (vlo vhi n a e : ℕ)
     (K : KeyList) (w : Path) (t : Times) (f v : Forest) : Type 0 where
   pub tabled : Table text table n-paths K
   pub place-is : placeOf K w ≡ place
@@ -67,18 +67,18 @@ pub record Held (text : Bytes) (table : List ℕ) (n-paths place : ℕ) (src cel
   pub front : above K w ≡ false → FrontIn n f
   pub version : above K w ≡ true → VersionIn K w v
   pub plain : untimed v ≡ true
-  pub set : Holds n words t
+  pub set : Says n src a e t
 
-pub record SomeHeld (text : Bytes) (table : List ℕ) (n-paths place : ℕ) (src cells : List ℕ) (lo hi : ℕ) (vsrc vcells : List ℕ) (vlo vhi n : ℕ) (words : List ℕ) : Type 0 where
+pub record SomeHeld (text : Bytes) (table : List ℕ) (n-paths place : ℕ) (src cells : List ℕ) (lo hi : ℕ) (vsrc vcells : List ℕ) (vlo vhi n a e : ℕ) : Type 0 where
   pub keyList : KeyList
   pub path : Path
   pub times : Times
   pub forest : Forest
   pub other : Forest
-  pub held : Held text table n-paths place src cells lo hi vsrc vcells vlo vhi n words keyList path times forest other
+  pub held : Held text table n-paths place src cells lo hi vsrc vcells vlo vhi n a e keyList path times forest other
 
 -- of a sibling, in an element at the place, that the version has too
-pub record Both (text : Bytes) (table : List ℕ) (n-paths place : ℕ) (src cells : List ℕ) (p : ℕ) (vsrc vcells : List ℕ) (q n : ℕ) (words : List ℕ)
+pub record Both (text : Bytes) (table : List ℕ) (n-paths place : ℕ) (src cells : List ℕ) (p : ℕ) (vsrc vcells : List ℕ) (q n a e : ℕ)
     (K : KeyList) (w : Path) (t : Times) (o : Option Bytes) (m : Bytes) (k g : Forest) : Type 0 where
   pub tabled : Table text table n-paths K
   pub place-is : placeOf K w ≡ place
@@ -90,9 +90,9 @@ pub record Both (text : Bytes) (table : List ℕ) (n-paths place : ℕ) (src cel
   pub vinner : Tape vsrc vcells (q + 1) (nextAt vcells q) g
   pub version : above K (w ▸ m) ≡ true → VersionIn K (w ▸ m) g
   pub plain : untimed g ≡ true
-  pub set : Holds n words t
+  pub set : Says n src a e t
 
-pub record SomeBoth (text : Bytes) (table : List ℕ) (n-paths place : ℕ) (src cells : List ℕ) (p : ℕ) (vsrc vcells : List ℕ) (q n : ℕ) (words : List ℕ) : Type 0 where
+pub record SomeBoth (text : Bytes) (table : List ℕ) (n-paths place : ℕ) (src cells : List ℕ) (p : ℕ) (vsrc vcells : List ℕ) (q n a e : ℕ) : Type 0 where
   pub keyList : KeyList
   pub path : Path
   pub times : Times
@@ -100,7 +100,7 @@ pub record SomeBoth (text : Bytes) (table : List ℕ) (n-paths place : ℕ) (src
   pub name : Bytes
   pub kids : Forest
   pub other : Forest
-  pub both : Both text table n-paths place src cells p vsrc vcells q n words keyList path times own name kids other
+  pub both : Both text table n-paths place src cells p vsrc vcells q n a e keyList path times own name kids other
 
 -- of the next siblings of both, to compare their labels
 pub record SomeNext (text : Bytes) (table : List ℕ) (n-paths place : ℕ) (src cells : List ℕ) (p : ℕ) (vsrc vcells : List ℕ) (q vhi : ℕ) : Type 0 where

@@ -2,11 +2,11 @@
 use Prim.Native.Nat.{ℕ, suc, _+_, _-_, _≤_}
 use native.Mathlib.Omega.{arith}
 use native.Mathlib.Numerals.{add-one}
-use mathlib.Core.Path.{_≡_, sym, _∙_, ap, subst}
+use mathlib.Core.Path.{_≡_, refl, sym, _∙_, ap, subst}
 use mathlib.Core.Bool.{Bool, true, false}
 use mathlib.Core.List.{List, [], _∷_, _++_, append-nil}
-use lib.ListN.{take, drop}
-use lib.Seq.{slice}
+use lib.ListN.{length, take, drop, length-append}
+use lib.Seq.{slice, take-take, length-slice, length-take-le}
 use Rattle.xml.specs.Bytes.{Bytes, bytes}
 use Rattle.xml.specs.Forest.{Forest, end, stamp, write}
 use Rattle.xml.specs.Over.{Wrote}
@@ -18,40 +18,54 @@ use Rattle.timestamp.specs.Set.{setOf, none, adding, upTo, subset}
 use Rattle.timestamp.specs.Tests.{subset-tells}
 use Rattle.timestamp.specs.Listed.{listed, Only, textOf, listed-adding, listed-newest, listed-up-to, only-adding, only-none, only-up-to, text-listed, text-up-to}
 use Rattle.timestamp.specs.Short.{text-short}
-use Rattle.timestamp.specs.Parse.{parsed, pickOutcome, outcome}
+use Rattle.timestamp.specs.Parse.{Outcome, refused, accepted, parsed}
 use Rattle.timestamp.specs.Parses.{text-parse}
-use Rattle.timestamp.specs.declared.text.Parsed.{Parsed}
+use Rattle.timestamp.specs.Place.{IsSetTo}
+use Rattle.timestamp.specs.Change.{tailText, Changes}
 use Rattle.versions.specs.Walk.{timesIn, newest}
 use Rattle.versions.specs.LegalTexts.{fits, legal-text, legal-set}
-use Rattle.versions.specs.AddParts.{Holds, LegalSet}
+use Rattle.versions.specs.AddParts.{Holds, Says, LegalSet}
 
--- ---- a legal text is read as its set
-pub read-holds : (n : ℕ) (l : Bytes) (r : Parsed) → n ≤ 999 → LegalSet n l → outcome r ≡ parsed l → Holds n (r .stamp .words) (timesIn n l)
-read-holds n l r h c e = go (r .ok) e
+-- ---- a legal text says its set
+pub legal-says : (n a e : ℕ) (src : Bytes) → n ≤ 999 → a ≤ e → e ≤ length src → LegalSet n (slice a e src) → Says n src a e (timesIn n (slice a e src))
+legal-says n a e src h l w c = go (parsed (slice a e src)) refl
   where
-    go : (b : Bool) → pickOutcome b (setOf (r .stamp .words)) ≡ parsed l → Holds n (r .stamp .words) (timesIn n l)
-    go true f =
-        let s : ℕ → Bool = setOf (r .stamp .words) in
-        let u : subset s (upTo n) ≡ true = ap (fits n) f ∙ sym (legal-text n l h) ∙ c in
+    go : (o : Outcome) → parsed (slice a e src) ≡ o → Says n src a e (timesIn n (slice a e src))
+    go refused f = clash (sym (sym (legal-text n (slice a e src) h) ∙ c) ∙ ap (fits n) f)
+    go (accepted s) f =
+        let x = text-parse (slice a e src) s f in
+        let u : subset s (upTo n) ≡ true = sym (ap (fits n) f) ∙ sym (legal-text n (slice a e src) h) ∙ c in
         record {
-          only = λ v q. let x = text-parse l s (sym f) .1 v q in (x .0, only-up-to n v (subset-tells s (upTo n) u v (omega (arith, x .1)) q) .1);
-          listed-is = sym (legal-set n l h s (sym f));
+          ordered = l;
+          within = w;
+          short = omega (arith, length-slice a e src w, ap length (x .0), text-short s);
+          set = s;
+          is = f;
+          only = λ v q. let y = x .1 v q in (y .0, only-up-to n v (subset-tells s (upTo n) u v (omega (arith, y .1)) q) .1);
+          listed-is = sym (legal-set n (slice a e src) h s f);
         }
-    go false f = clash (sym (sym (legal-text n l h) ∙ c) ∙ sym (ap (fits n) f))
 
 -- ---- its text, and that with version n + 1
-pub holds-text : {n : ℕ} {words : List ℕ} {t : Times} → Holds n words t → n ≤ 999 → textOf (setOf words) ≡ writeTimes t
-holds-text {n} {words} x h = text-listed n (setOf words) h (x .only) ∙ ap writeTimes (x .listed-is)
+module _ {n : ℕ} {src : Bytes} {a e : ℕ} {t : Times} (x : Says n src a e t) where
+  pub says-text : n ≤ 999 → slice a e src ≡ writeTimes t
+  says-text h = text-parse (slice a e src) (x .set) (x .is) .0 ∙ text-listed n (x .set) h (x .only) ∙ ap writeTimes (x .listed-is)
 
-pub more-text : {n : ℕ} {words : List ℕ} {t : Times} (s : ℕ → Bool) → Holds n words t → n ≤ 998 → s ≡ adding (n + 1) (setOf words) → textOf s ≡ writeTimes (t ++ true ∷ [])
-more-text {n} {words} s x h e =
-    ap textOf (e ∙ ap (λ i. adding i (setOf words)) (add-one n))
-    ∙ text-listed (suc n) (adding (suc n) (setOf words)) (omega arith) (only-adding n (setOf words) (x .only))
-    ∙ ap writeTimes (listed-adding n (setOf words) ∙ ap (λ l. l ++ true ∷ []) (x .listed-is))
+  pub says-more : n ≤ 998 → textOf (adding (n + 1) (x .set)) ≡ writeTimes (t ++ true ∷ [])
+  says-more h =
+      ap (λ i. textOf (adding i (x .set))) (add-one n)
+      ∙ text-listed (suc n) (adding (suc n) (x .set)) (omega arith) (only-adding n (x .set) (x .only))
+      ∙ ap writeTimes (listed-adding n (x .set) ∙ ap (λ l. l ++ true ∷ []) (x .listed-is))
+
+  pub says-set : IsSetTo n (slice a e src)
+  says-set = record { s = x .set; is = x .is; only = x .only }
 
 pub newest-text : (n : ℕ) (s : ℕ → Bool) → n ≤ 998 → s ≡ adding (n + 1) none → textOf s ≡ writeTimes (onlyAfter n)
 newest-text n s h e =
     ap textOf (e ∙ ap (λ i. adding i none) (add-one n)) ∙ text-listed (suc n) (adding (suc n) none) (omega arith) (only-adding n none (only-none n)) ∙ ap writeTimes (listed-newest n)
+
+-- a part of a text, as it is lent
+pub part-slice : (a e : ℕ) (l : Bytes) → a ≤ e → take (e - a) (drop a l) ≡ slice a e l
+part-slice a e l h = let z : a + (e - a) ≡ e = omega arith in sym (slice-part a (e - a) l) ∙ ap (λ x. slice a x l) z
 
 -- ---- the pieces of a `T`
 module _ {out mid far left : List ℕ} {at a b r : ℕ} where
@@ -70,9 +84,21 @@ pub wrote-newest : {out left : List ℕ} {at r : ℕ} (n : ℕ) (s : ℕ → Boo
 unfolding newest
 wrote-newest n s f h e x = rw (newest-text n s h e) at x
 
--- a part of a text, as it is lent
-pub part-slice : (a e : ℕ) (l : Bytes) → a ≤ e → take (e - a) (drop a l) ≡ slice a e l
-part-slice a e l h = let z : a + (e - a) ≡ e = omega arith in sym (slice-part a (e - a) l) ∙ ap (λ x. slice a x l) z
+-- ---- the text of a changed set is short
+pub change-short : {to tail v : ℕ} {g : (ℕ → Bool) → ℕ → Bool} (l : Bytes) (s : ℕ → Bool) → parsed l ≡ accepted s → Changes l g v to tail → to + length (tailText tail v) ≤ 3000
+change-short {to} {tail} {v} {g} l s f c =
+    omega (arith, text-short (g s), ap length (c .becomes s f) ∙ length-append (take to l) (tailText tail v), length-take-le to l (c .inside))
+
+-- ---- a `T` whose set has version n + 1 added: the first bytes of its text and a tail
+pub wrote-grown : {out mid far last left : List ℕ} {at i j k r to tail : ℕ} (n a e : ℕ) (src : Bytes) (s : ℕ → Bool) → a ≤ e → e ≤ length src → parsed (slice a e src) ≡ accepted s
+    → Changes (slice a e src) (adding (n + 1)) (n + 1) to tail → Wrote out at (bytes "<T t=\"") i mid → Wrote mid i (slice a (a + to) src) j far → Wrote far j (tailText tail (n + 1)) k last
+    → Wrote last k (bytes "\">") r left → Wrote out at (opening false (textOf (adding (n + 1) s))) r left × (r ≤ at + 3008)
+wrote-grown {to = to} n a e src s l w f c x y z q =
+    let d : a + to - a ≡ to = omega arith in
+    let m : to ≤ e - a = omega (arith, c .inside, length-slice a e src w) in
+    let g : slice a (a + to) src ≡ take to (slice a e src) =
+    sym (part-slice a (a + to) src (omega arith)) ∙ ap (λ i. take i (drop a src)) d ∙ sym (take-take to (e - a) (drop a src) m) ∙ ap (take to) (part-slice a e src l) in
+    wrote-times (adding (n + 1) s) x (rw (c .becomes s f) (wrote-then (rw g at y) z)) q
 
 -- ---- the sets of all versions
 pub up-to-holds : {words : List ℕ} (n : ℕ) → setOf words ≡ upTo n → Holds n words (always n)

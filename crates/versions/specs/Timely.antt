@@ -14,15 +14,13 @@ use Rattle.xml.specs.Truth.{clash, by-test, and-both}
 use Rattle.xml.specs.Tape.{headAt, nextAt, Tape, at-end, at-text, at-elem, at-stamp}
 use Rattle.xml.specs.TapeLaws.{bytesAt, split, inner-node, front, tape-le}
 use Rattle.keys.specs.KeyList.{KeyList}
-use Rattle.timestamp.specs.Times.{Times}
-use Rattle.timestamp.specs.Set.{setOf, cutAt, sameSet}
-use Rattle.timestamp.specs.Tests.{same-sets}
-use Rattle.timestamp.specs.Listed.{listed, textOf, Only, only-cut}
-use Rattle.timestamp.specs.Parse.{Outcome, refused, accepted, parsed, pickOutcome}
-use Rattle.timestamp.specs.Parses.{text-parse}
+use Rattle.timestamp.specs.Times.{always, lastNumber}
+use Rattle.timestamp.specs.Parse.{Outcome, refused, accepted, parsed}
+use Rattle.timestamp.specs.Place.{IsSet}
 use Rattle.versions.specs.Archive.{lastVersion}
 use Rattle.versions.specs.Walk.{timesIn, canonical, ever, forestLegal}
-use Rattle.versions.specs.ListedLaws.{times-cut}
+use Rattle.versions.specs.SetLaws.{timesIn-cut}
+use Rattle.versions.specs.BackLaws.{length-always, take-always}
 use Rattle.versions.specs.LegalTexts.{fits, legal-text}
 use Rattle.versions.specs.AllTimed.{AllTimed, timed-join, timed-forest, legal-last, outer}
 
@@ -33,12 +31,6 @@ pub record Timely (i : ℕ) (src cells : List ℕ) (lo hi : ℕ) : Type 0 where
   pub forest : Forest
   pub tape : Tape src cells lo hi forest
   pub timed : AllTimed last forest
-
--- the words hold what a cut at i leaves of the set with the text s; where it is whole, all of it
-pub record CutTo (i : ℕ) (s : Bytes) (words : List ℕ) (whole : Bool) : Type 0 where
-  pub only : Only i (setOf words)
-  pub listed-is : listed i (setOf words) ≡ timesIn i s
-  pub text-is : whole ≡ true → textOf (setOf words) ≡ s
 
 -- a text of a set of some 1 to n versions
 pub record LegalText (s : Bytes) : Type 0 where
@@ -54,23 +46,6 @@ legal-read s h = go (parsed s) refl
     go : (o : Outcome) → parsed s ≡ o → (u : ℕ → Bool) × (parsed s ≡ accepted u)
     go refused e = clash (sym (sym (legal-text (h .last) s (h .small)) ∙ and-both _ _ (h .text-is) (h .some-there)) ∙ ap (fits (h .last)) e)
     go (accepted u) e = (u, e)
-
-outcome-set : (ok : Bool) (w u : ℕ → Bool) → pickOutcome ok w ≡ accepted u → w ≡ u
-outcome-set true w u e = cc
-outcome-set false w u e = let z : _≡_ {A = ℕ} 0 1 = cc in absurd (omega arith)
-
--- and cut at i
-pub cut-to : (i : ℕ) (s : Bytes) (ok whole : Bool) (read cut : List ℕ) → i ≤ 999 → length read ≡ 16 → length cut ≡ 16 → pickOutcome ok (setOf read) ≡ parsed s
-    → setOf cut ≡ cutAt i (setOf read) → whole ≡ sameSet (setOf cut) (setOf read) → LegalText s → CutTo i s cut whole
-cut-to i s ok whole read cut l lr lc e d w h =
-    let x = legal-read s h in
-    let is : setOf read ≡ x .0 = outcome-set ok (setOf read) (x .0) (e ∙ x .1) in
-    let p = text-parse s (setOf read) (x .1 ∙ ap accepted (sym is)) in
-    record {
-      only = rw d (only-cut 999 i (setOf read) (p .1));
-      listed-is = rw d (sym (times-cut i (setOf read) l) ∙ ap (timesIn i) (sym (p .0)));
-      text-is = λ t. ap textOf (same-sets cut read lc lr (sym w ∙ t)) ∙ sym (p .0);
-    }
 
 module _ {i : ℕ} {src cells : List ℕ} where
   pub timely-first : {p q : ℕ} → Timely i src cells p q → p < q → Timely i src cells p (nextAt cells p)
@@ -102,6 +77,10 @@ module _ {i : ℕ} {src cells : List ℕ} where
       let h = rw (n .timed k) at (x .timed) in
       record { last = x .last; small = x .small; text-is = h .0; some-there = h .1 }
 
+  -- which is that of a set
+  pub timely-set : {p : ℕ} → Timely i src cells p (nextAt cells p) → p < nextAt cells p → headAt cells p % 4 ≡ 2 → IsSet (bytesAt src cells p)
+  timely-set {p} x l k = let y = legal-read (bytesAt src cells p) (timely-text x l k) in record { s = y .0; is = y .1 }
+
   -- what the outer `T` of a whole archive holds
   pub timely-whole : {hi : ℕ} → Timely i src cells 0 hi → 0 < hi → nextAt cells 0 ≡ hi → headAt cells 0 % 4 ≡ 2 → Timely i src cells 1 hi
   timely-whole x l e k = rw e at (timely-inside (rw (← e) at x) (rw e l) (λ z. omega arith))
@@ -121,3 +100,14 @@ module _ {src cells : List ℕ} where
   legal-outer K h (at-stamp {t = s} {k = j} n k (at-text {b = b} {r = f} m u e r)) = clash (sym (outer K s j (text b f) h .alone))
   legal-outer K h (at-stamp {t = s} {k = j} n k (at-elem {n = b} {k = g} {r = f} m x r)) = clash (sym (outer K s j (elem b g f) h .alone))
   legal-outer K h (at-stamp {t = s} {k = j} n k (at-stamp {t = b} {k = g} {r = f} m x r)) = clash (sym (outer K s j (stamp b g f) h .alone))
+
+  -- whose text has all versions
+  pub legal-all : (K : KeyList) (i : ℕ) {hi : ℕ} {f : Forest} → forestLegal K f ≡ true → Tape src cells 0 hi f → i ≤ lastVersion f → timesIn i (bytesAt src cells 0) ≡ always i
+  unfolding forestLegal lastVersion
+  legal-all K i h (at-end e) l = clash (sym h)
+  legal-all K i h (at-text n u e r) l = clash (sym h)
+  legal-all K i h (at-elem n k r) l = clash (sym h)
+  legal-all K i h (at-stamp {t = s} {k = j} {r = f} n k r) l =
+      let o = outer K s j f h in
+      let m = lastNumber s in
+      ap (timesIn i) (n .bytes-are ∙ o .text-is) ∙ timesIn-cut i (always m) (omega (arith, length-always m)) (omega (arith, length-always m, o .small)) ∙ take-always i m l

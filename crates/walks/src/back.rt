@@ -1,60 +1,71 @@
 // Writing an archive after a step back to version i: each `T`'s set is cut at i. What is cut to nothing is dropped, what is cut to the
 // set around it is bare, anything else is in a `T`.
-use crate::timed::put_times;
-use timestamp::Timestamp;
-use timestamp::cut_words;
-use timestamp::text::parse;
+use timestamp::change::Change;
+use timestamp::change::cut_at;
+use timestamp::write::put_tail;
 use xml::tape::is_run;
 use xml::tape::view_at;
 use xml::writer::put_close;
 use xml::writer::put_open;
+use xml::writer::put_part;
 use xml::writer::put_text;
 use xml::writer::put_word;
 ghost use mathlib.Core.Path.{_≡_};
-ghost use mathlib.Core.Bool.{true, false};
+ghost use mathlib.Core.Bool.{false};
+ghost use mathlib.Core.List.{_++_};
 ghost use Prim.Native.Nat.{_+_, _*_, _-_, _%_, _^_, _<_, _≤_};
-ghost use lib.ListN.{length};
+ghost use lib.ListN.{getD, length};
 ghost use lib.Seq.{slice};
+ghost use Rattle.xml.specs.Bytes.{same};
 ghost use Rattle.xml.specs.Forest.{Forest, write as written};
 ghost use Rattle.xml.specs.Over.{Wrote};
 ghost use Rattle.xml.specs.Tape.{headAt, nextAt, Tape};
-ghost use Rattle.xml.specs.TapeLaws.{opening};
-ghost use Rattle.timestamp.specs.Set.{setOf};
-ghost use Rattle.timestamp.specs.Listed.{Only, listed, textOf};
-ghost use Rattle.versions.specs.Walk.{backForest};
+ghost use Rattle.xml.specs.TapeLaws.{bytesAt, opening};
+ghost use Rattle.timestamp.specs.Times.{always};
+ghost use Rattle.versions.specs.Walk.{timesIn, backForest};
 ghost use Rattle.versions.specs.Rendered.{Renders};
-ghost use Rattle.versions.specs.Timely.{Timely, LegalText, CutTo};
+ghost use Rattle.versions.specs.Timely.{Timely};
 ghost use Rattle.versions.specs.BackText.{backText};
+ghost use Rattle.walks.specs.Trimmed.{cutText, Trimmed};
 
-// A set cut at a version, and whether it is the whole set.
-pub struct Cut {
-    pub stamp: Timestamp,
-    pub whole: bool,
+// Writes the opening tag of a `T` with a set's text cut at i: the first bytes of the text that begins at a, and the tail.
+fn put_cut(cut: Change, src: &[u8], a: usize, i: usize, out: &mut [u8], at: usize) -> usize
+    requires { ⌜ (1 ≤ i) × (i ≤ 999) × Trimmed i (now src) a (cut .to) (cut .tail) × (at < 2 ^ 60) ⌝ }
+    ensures { λ r. ⌜ Wrote (now (out .entry)) at (opening false (cutText (now (src .entry)) a (cut .to) (cut .tail) i)) r (now (out .exit)) ⌝ }
+{
+    let times = put_word(b"<T t=\"", out, at);
+    let tail = put_part(src, a, a + cut.to, out, times);
+    let last = put_tail(cut.tail, i, out, tail);
+    put_word(b"\">", out, last)
 }
 
-// The versions up to i of the set with this text.
-pub fn times_to(text: &[u8], i: usize) -> Cut
-    requires { ⌜ (i ≤ 999) × LegalText (now text) ⌝ }
-    ensures { λ r. ⌜ CutTo i (now (text .entry)) (r .stamp .words) (r .whole) ⌝ }
+// The byte k of a text whose first `to` bytes begin at a, with the others in `tail`.
+fn byte_in(src: &[u8], a: usize, to: usize, tail: &[u8], k: usize) -> u8
+    requires { ⌜ (a + to ≤ length (now src)) × (k < to + length (now tail)) ⌝ }
+    ensures { λ r. ⌜ r ≡ getD (slice a (a + to) (now (src .entry)) ++ now (tail .entry)) k 0 ⌝ }
 {
-    let read = parse(text);
-    let mut words = read.stamp.words;
-    let whole = cut_words(&mut words, i);
-    Cut {
-        stamp: Timestamp { words: words },
-        whole: whole,
-    }
+    if k < to { src[a + k] } else { tail[k - to] }
 }
 
-// Writes the opening tag of a `T` with a cut set, which had the text src[a..e] before: that text is copied where the set is whole.
-fn put_cut(cut: Cut, src: &[u8], a: usize, e: usize, out: &mut [u8], at: usize) -> usize
-    requires { ⌜ (a ≤ e) × (e ≤ length (now src)) × (e - a ≤ 32768) × (at < 2 ^ 60) × (cut .whole ≡ true → textOf (setOf (cut .stamp .words)) ≡ slice a e (now src)) ⌝ }
-    ensures { λ r. ⌜ Wrote (now (out .entry)) at (opening false (textOf (setOf (cut .stamp .words)))) r (now (out .exit)) ⌝ }
+// Whether two cut texts, which begin at a and b, are the same.
+fn same_cut(src: &[u8], a: usize, x: Change, b: usize, y: Change, i: usize) -> bool
+    requires { ⌜ (1 ≤ i) × (i ≤ 999) × Trimmed i (now src) a (x .to) (x .tail) × Trimmed i (now src) b (y .to) (y .tail) ⌝ }
+    ensures { λ r. ⌜ r ≡ same (cutText (now (src .entry)) a (x .to) (x .tail) i) (cutText (now (src .entry)) b (y .to) (y .tail) i) ⌝ }
 {
-    if cut.whole {
-        return put_open(false, src, a, e, out, at);
+    let mut xs = [0u8; 4];
+    let mut ys = [0u8; 4];
+    let size = x.to + put_tail(x.tail, i, &mut xs, 0);
+    if size != y.to + put_tail(y.tail, i, &mut ys, 0) {
+        return false;
     }
-    put_times(cut.stamp, out, at)
+    let mut k = 0;
+    while k < size {
+        if byte_in(src, a, x.to, &xs, k) != byte_in(src, b, y.to, &ys, k) {
+            return false;
+        }
+        k += 1;
+    }
+    true
 }
 
 // Writes the nodes lo to hi, which a node of the versions `around` holds: one run of text is written with no walk.
@@ -64,19 +75,20 @@ fn back_inside(
     lo: usize,
     hi: usize,
     i: usize,
-    around: Timestamp,
+    a: usize,
+    around: Change,
     out: &mut [u8],
     at: usize,
 ) -> usize
-    requires { ⌜ Timely i (now src) (now tape) lo hi × Only i (setOf (around .words)) × (at + 163840 * (hi - lo) < 2 ^ 60) ⌝ }
-    ensures { λ r. ⌜ Renders (backText i (listed i (setOf (around .words)))) (now (src .entry)) (now (tape .entry)) lo hi
+    requires { ⌜ Timely i (now src) (now tape) lo hi × (1 ≤ i) × Trimmed i (now src) a (around .to) (around .tail) × (at + 163840 * (hi - lo) < 2 ^ 60) ⌝ }
+    ensures { λ r. ⌜ Renders (backText i (timesIn i (cutText (now (src .entry)) a (around .to) (around .tail) i))) (now (src .entry)) (now (tape .entry)) lo hi
         (now (out .entry)) at r (now (out .exit)) ⌝ }
 {
     if is_run(tape, lo, hi) {
         let v = view_at(tape, lo);
         return put_text(src, v.start, v.end, out, at);
     }
-    write_back(src, tape, lo, hi, i, around, out, at)
+    write_back(src, tape, lo, hi, i, a, around, out, at)
 }
 
 // Writes node p, which stands in an element of the versions `around`.
@@ -85,12 +97,13 @@ fn back_node(
     tape: &[u32],
     p: usize,
     i: usize,
-    around: Timestamp,
+    a: usize,
+    around: Change,
     out: &mut [u8],
     at: usize,
 ) -> usize
-    requires { ⌜ (p < nextAt (now tape) p) × Timely i (now src) (now tape) p (nextAt (now tape) p) × Only i (setOf (around .words)) × (at + 163840 * (nextAt (now tape) p - p) < 2 ^ 60) ⌝ }
-    ensures { λ r. ⌜ Renders (backText i (listed i (setOf (around .words)))) (now (src .entry)) (now (tape .entry)) p (nextAt (now (tape .entry)) p)
+    requires { ⌜ (p < nextAt (now tape) p) × Timely i (now src) (now tape) p (nextAt (now tape) p) × (1 ≤ i) × Trimmed i (now src) a (around .to) (around .tail) × (at + 163840 * (nextAt (now tape) p - p) < 2 ^ 60) ⌝ }
+    ensures { λ r. ⌜ Renders (backText i (timesIn i (cutText (now (src .entry)) a (around .to) (around .tail) i))) (now (src .entry)) (now (tape .entry)) p (nextAt (now (tape .entry)) p)
         (now (out .entry)) at r (now (out .exit)) ⌝ }
 {
     let v = view_at(tape, p);
@@ -101,19 +114,18 @@ fn back_node(
     }
     if v.kind == 1 {
         let inside = put_open(true, src, start, end, out, at);
-        let close = back_inside(src, tape, p + 1, v.next, i, around, out, inside);
+        let close = back_inside(src, tape, p + 1, v.next, i, a, around, out, inside);
         return put_close(true, src, start, end, out, close);
     }
-    let cut = times_to(&src[start..end], i);
-    let t = cut.stamp;
-    if t.is_empty() {
+    let cut = cut_at(&src[start..end], i);
+    if cut.to + cut.tail == 0 {
         return at;
     }
-    if around.same(t) {
-        return back_inside(src, tape, p + 1, v.next, i, t, out, at);
+    if same_cut(src, a, around, start, cut, i) {
+        return back_inside(src, tape, p + 1, v.next, i, start, cut, out, at);
     }
-    let inside = put_cut(cut, src, start, end, out, at);
-    let close = back_inside(src, tape, p + 1, v.next, i, t, out, inside);
+    let inside = put_cut(cut, src, start, i, out, at);
+    let close = back_inside(src, tape, p + 1, v.next, i, start, cut, out, inside);
     put_close(false, src, start, end, out, close)
 }
 
@@ -124,18 +136,19 @@ pub fn write_back(
     lo: usize,
     hi: usize,
     i: usize,
-    around: Timestamp,
+    a: usize,
+    around: Change,
     out: &mut [u8],
     at: usize,
 ) -> usize
-    requires { ⌜ Timely i (now src) (now tape) lo hi × Only i (setOf (around .words)) × (at + 163840 * (hi - lo) < 2 ^ 60) ⌝ }
-    ensures { λ r. ⌜ Renders (backText i (listed i (setOf (around .words)))) (now (src .entry)) (now (tape .entry)) lo hi
+    requires { ⌜ Timely i (now src) (now tape) lo hi × (1 ≤ i) × Trimmed i (now src) a (around .to) (around .tail) × (at + 163840 * (hi - lo) < 2 ^ 60) ⌝ }
+    ensures { λ r. ⌜ Renders (backText i (timesIn i (cutText (now (src .entry)) a (around .to) (around .tail) i))) (now (src .entry)) (now (tape .entry)) lo hi
         (now (out .entry)) at r (now (out .exit)) ⌝ }
 {
     let mut p = lo;
     let mut to = at;
     while p < hi {
-        to = back_node(src, tape, p, i, around, out, to);
+        to = back_node(src, tape, p, i, a, around, out, to);
         let v = view_at(tape, p);
         p = v.next;
     }
@@ -144,12 +157,15 @@ pub fn write_back(
 
 // Writes the whole archive, which the nodes 0 to hi are, after a step back to version i.
 pub fn back(src: &[u8], tape: &[u32], hi: usize, i: usize, out: &mut [u8], at: usize) -> usize
-    requires { ⌜ (0 < hi) × (nextAt (now tape) 0 ≡ hi) × (headAt (now tape) 0 % 4 ≡ 2) × Timely i (now src) (now tape) 0 hi × (at + 163840 * hi < 2 ^ 60) ⌝ }
+    requires { ⌜ (0 < hi) × (nextAt (now tape) 0 ≡ hi) × (headAt (now tape) 0 % 4 ≡ 2) × Timely i (now src) (now tape) 0 hi × (1 ≤ i) × (timesIn i (bytesAt (now src) (now tape) 0) ≡ always i) × (at + 163840 * hi < 2 ^ 60) ⌝ }
     ensures { λ r. ⌜ ((f : Forest) → Tape (now (src .entry)) (now (tape .entry)) 0 hi f
         → Wrote (now (out .entry)) at (written (backForest i f)) r (now (out .exit))) ⌝ }
 {
-    let all = Timestamp::up_to(i);
-    let inside = put_times(all, out, at);
-    let close = write_back(src, tape, 1, hi, i, all, out, inside);
+    let v = view_at(tape, 0);
+    let start = v.start;
+    let end = v.end;
+    let cut = cut_at(&src[start..end], i);
+    let inside = put_cut(cut, src, start, i, out, at);
+    let close = write_back(src, tape, 1, hi, i, start, cut, out, inside);
     put_word(b"</T>", out, close)
 }

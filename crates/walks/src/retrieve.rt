@@ -1,17 +1,33 @@
 // Writing a version of an archive whose text lies on a tape: what stands in a `T` without the version is left out, and no `T` is written.
 use timestamp::text::belongs;
+use timestamp::text::holds;
 use xml::tape::view_at;
 use xml::writer::put_close;
 use xml::writer::put_open;
 use xml::writer::put_text;
 ghost use Prim.Native.Nat.{_+_, _*_, _-_, _^_, _<_};
-ghost use Rattle.xml.specs.Tape.{nextAt, Valid};
+ghost use mathlib.Core.Path.{_≡_};
+ghost use Rattle.xml.specs.Tape.{nextAt};
+ghost use Rattle.timestamp.specs.Times.{belongs as inSet};
+ghost use Rattle.timestamp.specs.Place.{IsSet};
 ghost use Rattle.versions.specs.Rendered.{Renders};
+ghost use Rattle.versions.specs.Timely.{Timely};
 ghost use Rattle.versions.specs.VersionText.{versionText};
+
+// Whether version i is in the set with this text: a short one is read run by run, in a long one the run is found by halving.
+fn is_in(text: &[u8], i: usize) -> bool
+    requires { ⌜ IsSet (now text) × (i < 1000) ⌝ }
+    ensures { λ r. ⌜ r ≡ inSet i (now (text .entry)) ⌝ }
+{
+    if text.len() < 16 {
+        return belongs(text, i);
+    }
+    holds(text, i)
+}
 
 // Writes what of node p is in version i.
 fn write_node(src: &[u8], tape: &[u32], p: usize, i: usize, out: &mut [u8], at: usize) -> usize
-    requires { ⌜ (p < nextAt (now tape) p) × Valid (now src) (now tape) p (nextAt (now tape) p) × (i < 1000) × (at + 163840 * (nextAt (now tape) p - p) < 2 ^ 61) ⌝ }
+    requires { ⌜ (p < nextAt (now tape) p) × Timely i (now src) (now tape) p (nextAt (now tape) p) × (at + 163840 * (nextAt (now tape) p - p) < 2 ^ 61) ⌝ }
     ensures { λ r. ⌜ Renders (versionText i) (now (src .entry)) (now (tape .entry)) p (nextAt (now (tape .entry)) p) (now (out .entry)) at r (now (out .exit)) ⌝ }
 {
     let v = view_at(tape, p);
@@ -25,7 +41,7 @@ fn write_node(src: &[u8], tape: &[u32], p: usize, i: usize, out: &mut [u8], at: 
     }
     let start = v.start;
     let end = v.end;
-    if belongs(&src[start..end], i) {
+    if is_in(&src[start..end], i) {
         return write_version(src, tape, p + 1, v.next, i, out, at);
     }
     at
@@ -41,7 +57,7 @@ pub fn write_version(
     out: &mut [u8],
     at: usize,
 ) -> usize
-    requires { ⌜ Valid (now src) (now tape) lo hi × (i < 1000) × (at + 163840 * (hi - lo) < 2 ^ 61) ⌝ }
+    requires { ⌜ Timely i (now src) (now tape) lo hi × (at + 163840 * (hi - lo) < 2 ^ 61) ⌝ }
     ensures { λ r. ⌜ Renders (versionText i) (now (src .entry)) (now (tape .entry)) lo hi (now (out .entry)) at r (now (out .exit)) ⌝ }
 {
     let mut p = lo;

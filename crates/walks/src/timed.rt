@@ -1,30 +1,16 @@
-// An archive's `T`s: reading the set of one, and writing one.
+// Writing an archive's `T`s.
 use timestamp::Timestamp;
-use timestamp::text::parse;
 use xml::writer::put_word;
 use xml::writer::write_at;
-ghost use mathlib.Core.Path.{_≡_};
 ghost use mathlib.Core.Bool.{false};
-ghost use Prim.Native.Nat.{ℕ, _+_, _*_, _-_, _^_, _<_, _≤_};
-ghost use lib.ListN.{length};
-ghost use lib.Seq.{slice};
+ghost use Prim.Native.Nat.{_+_, _*_, _-_, _^_, _<_, _≤_};
 ghost use Rattle.xml.specs.Over.{Wrote};
 ghost use Rattle.xml.specs.Forest.{Forest, end, stamp, write};
 ghost use Rattle.xml.specs.Tape.{Tape, Valid};
 ghost use Rattle.xml.specs.TapeLaws.{opening};
 ghost use Rattle.timestamp.specs.Set.{setOf};
 ghost use Rattle.timestamp.specs.Listed.{textOf};
-ghost use Rattle.versions.specs.Walk.{timesIn, newest};
-ghost use Rattle.versions.specs.AddParts.{Holds, LegalSet};
-
-// The set with the text src[a..e].
-pub fn read_times(src: &[u8], a: usize, e: usize) -> Timestamp
-    requires { ⌜ (a ≤ e) × (e ≤ length (now src)) ⌝ }
-    ensures { λ r. ⌜ ((n : ℕ) → n ≤ 999 → LegalSet n (slice a e (now (src .entry))) → Holds n (r .words) (timesIn n (slice a e (now (src .entry))))) ⌝ }
-{
-    let p = parse(&src[a..e]);
-    p.stamp
-}
+ghost use Rattle.versions.specs.Walk.{newest};
 
 // Writes the opening tag of a `T` with this set.
 pub fn put_times(set: Timestamp, out: &mut [u8], at: usize) -> usize

@@ -19,6 +19,7 @@ use Rattle.timestamp.specs.Times.{Times}
 use Rattle.versions.specs.Walk.{firstLabel, addIn}
 use Rattle.versions.specs.AddParts.{sibling, setIn, bothPart, inside, placeIn, At}
 use Rattle.adding.specs.Growth.{Grew}
+use Rattle.versions.specs.TimedLaws.{says-set}
 use Rattle.versions.specs.AddWalk.{Held, Both, at-front, at-forward, at-place}
 use Rattle.adding.specs.AddWay.{Way, way-none, way-old, way-new, way-both, way-done, nextOf, otherOf, orderAt, order-at, order-same, there, both-of, both-grew, inside-above, inside-front, room-more, room-inner, room-outer, inner-held, opening-short, closing-short}
 use Prim.Native.Nat.{ℕ, _+_, _*_, _-_, _<_, _≤_}
@@ -69,7 +70,7 @@ abbrev write-added-calls : ℕ → write-added-lts.Claims
 write-added-calls t = (is-above-reads.Asked, is-above-reads.Learnt, write-contents-reads.Asked, write-contents-reads.Learnt, order-of-reads.Asked, order-of-reads.Learnt, view-at-reads.Asked, view-at-reads.Learnt, put-newest-reads.Asked, put-newest-reads.Learnt, write-old-reads.Asked, write-old-reads.Learnt, write-both-below t, write-both.Post, write-new-reads.Asked, write-new-reads.Learnt)
 
 abbrev write-added-Inv-loop : write-added-lts.InvT-loop
-write-added-Inv-loop text table paths place src tape lo hi vsrc vtape vlo vhi n around out₀ at p₀ q₀ to₀ fresh₀ out p q to fresh = (lo ≤ p) × (vlo ≤ q) × (to + 262144 * (hi - p + (vhi - q)) ≤ at + 262144 * (hi - lo + (vhi - vlo))) × (fresh + (vhi - q) ≤ vhi - vlo) × (length out ≡ length out₀) × ((K : KeyList) (w : Path) (u : Times) (f v : Forest) → Held text table paths place src tape lo hi vsrc vtape vlo vhi n (around .words) K w u f v → above K w ≡ true → Way src tape p hi vsrc vtape q vhi n K w u (addIn K n w u f v) f out₀ at to out fresh)
+write-added-Inv-loop text table paths place src tape lo hi vsrc vtape vlo vhi n around out₀ at p₀ q₀ to₀ fresh₀ out p q to fresh = (lo ≤ p) × (vlo ≤ q) × (to + 262144 * (hi - p + (vhi - q)) ≤ at + 262144 * (hi - lo + (vhi - vlo))) × (fresh + (vhi - q) ≤ vhi - vlo) × (length out ≡ length out₀) × ((K : KeyList) (w : Path) (u : Times) (f v : Forest) → Held text table paths place src tape lo hi vsrc vtape vlo vhi n (around .start) (around .end) K w u f v → above K w ≡ true → Way src tape p hi vsrc vtape q vhi n K w u (addIn K n w u f v) f out₀ at to out fresh)
 
 abbrev write-added-μ-loop : write-added-lts.MeasureT-loop
 write-added-μ-loop text table paths place src tape lo hi vsrc vtape vlo vhi n around out₀ at p₀ q₀ to₀ fresh₀ out p q to fresh = hi - p + (vhi - q)
@@ -121,9 +122,9 @@ module _ (t : ℕ) where
   write-added-is-above-requires c κs = c .before .before .before .before .before .before .before .pre .1 .0 .held .tabled .held
 
   write-added-write-contents-requires : write-added-lts.Need-write-contents-requires (write-added-calls t) (write-added-at t) write-added.Post write-added-Inv-loop write-added-μ-loop
-  write-added-write-contents-requires c κs =
-      let h = c .before .before .before .before .before .before .before .before .before .before .pre .1 .0 .held in
-      (record { forest = c .before .before .before .before .before .before .before .before .before .before .pre .1 .0 .forest; tape = h .tape }, record { forest = c .before .before .before .before .before .before .before .before .before .before .pre .1 .0 .other; tape = h .vtape }, c .before .before .before .before .before .before .before .before .before .before .pre .1 .1, c .before .before .before .before .before .before .before .before .before .before .pre .1 .2, c .before .before .before .before .before .before .before .before .before .before .pre .1 .3, omega (arith, c .before .before .before .before .before .before .before .before .before .before .pre .1 .4))
+  write-added-write-contents-requires c κs = let h = c .before .before .before .before .before .before .before .before .before .before .pre .1 .0 .held in
+      let a = sym (c .before .before .is-above .ensures (c .before .before .before .before .before .before .before .before .before .before .args .text .now) (c .before .before .before .before .before .before .before .before .before .before .pre .1 .0 .keyList) (c .before .before .before .before .before .before .before .before .before .before .pre .1 .0 .path) (h .tabled) (h .place-is)) ∙ not-true _ (c .before .if1 .taken) in
+      (record { forest = c .before .before .before .before .before .before .before .before .before .before .pre .1 .0 .forest; tape = h .tape; legal = h .front a }, h .set .ordered, h .set .within, h .set .short, record { forest = c .before .before .before .before .before .before .before .before .before .before .pre .1 .0 .other; tape = h .vtape }, c .before .before .before .before .before .before .before .before .before .before .pre .1 .1, c .before .before .before .before .before .before .before .before .before .before .pre .1 .2, c .before .before .before .before .before .before .before .before .before .before .pre .1 .3, omega (arith, c .before .before .before .before .before .before .before .before .before .before .pre .1 .4))
 
   write-added-same-length : write-added-lts.Need-same-length (write-added-calls t) (write-added-at t) write-added.Post write-added-Inv-loop write-added-μ-loop
   write-added-same-length c = search needs
@@ -182,12 +183,12 @@ module _ (t : ℕ) where
       )
 
   write-added-write-old-requires : write-added-lts.Need-write-old-requires (write-added-calls t) (write-added-at t) write-added.Post write-added-Inv-loop write-added-μ-loop
-  write-added-write-old-requires c κs =
-      let x = way (c .before .before .before .before .before) in
+  write-added-write-old-requires c κs = let x = way (c .before .before .before .before .before) in
       let l = c .before .before .before .before .loop-test .taken in
       let s = nextOf x l in
       let g = front (x .tape) l in
-      (g .forward, record { forest = _; tape = s .at .here }, omega (arith, g .inside, c .before .before .before .before .before .before .before .before .before .before .before .before .before .before .before .pre .1 .2), omega (arith, c .before .before .before .before .before .loop .inv .2, c .before .before .before .before .before .before .before .before .before .before .before .before .before .before .before .pre .1 .4))
+      let h = c .before .before .before .before .before .before .before .before .before .before .before .before .before .before .before .pre .1 .0 .held .set in
+      (g .forward, record { forest = _; tape = s .at .here }, omega (arith, g .inside, c .before .before .before .before .before .before .before .before .before .before .before .before .before .before .before .pre .1 .2), h .ordered, h .within, h .short, omega (arith, c .before .before .before .before .before .loop .inv .2, c .before .before .before .before .before .before .before .before .before .before .before .before .before .before .before .pre .1 .4))
 
   write-added-view-at-requires-2 : write-added-lts.Need-view-at-requires-2 (write-added-calls t) (write-added-at t) write-added.Post write-added-Inv-loop write-added-μ-loop
   write-added-view-at-requires-2 c κs = front (way (c .before .before .before .before .before .before .before .before) .tape) (c .before .before .before .before .before .before .before .loop-test .taken) .held
@@ -310,8 +311,8 @@ module _ (t : ℕ) where
   spot c a = c .element-at .ensures ∙ at-place a
 
   inner : (c : write-both-lts.After-slice-known3 (write-both-calls t) (write-both-at t) write-both.Post) {K : KeyList} {w : Path} {u : Times} {o : Option Bytes} {m : Bytes} {k f : Forest}
-      → Both (c .before .before .before .before .before .before .before .before .before .before .before .before .before .before .before .before .before .before .before .before .args .text .now) (c .before .before .before .before .before .before .before .before .before .before .before .before .before .before .before .before .before .before .before .before .args .table .now) (c .before .before .before .before .before .before .before .before .before .before .before .before .before .before .before .before .before .before .before .before .args .paths) (c .before .before .before .before .before .before .before .before .before .before .before .before .before .before .before .before .before .before .before .before .args .place) (c .before .before .before .before .before .before .before .before .before .before .before .before .before .before .before .before .before .before .before .before .args .src .now) (c .before .before .before .before .before .before .before .before .before .before .before .before .before .before .before .before .before .before .before .before .args .tape .now) (c .before .before .before .before .before .before .before .before .before .before .before .before .before .before .before .before .before .before .before .before .args .p) (c .before .before .before .before .before .before .before .before .before .before .before .before .before .before .before .before .before .before .before .before .args .vsrc .now) (c .before .before .before .before .before .before .before .before .before .before .before .before .before .before .before .before .before .before .before .before .args .vtape .now) (c .before .before .before .before .before .before .before .before .before .before .before .before .before .before .before .before .before .before .before .before .args .q) (c .before .before .before .before .before .before .before .before .before .before .before .before .before .before .before .before .before .before .before .before .args .n) (c .before .before .before .before .before .before .before .before .before .before .before .before .before .before .before .before .before .before .before .before .args .around .words) K w u o m k f
-      → Held (c .before .before .before .before .before .before .before .before .before .before .before .before .before .before .before .before .before .before .before .before .args .text .now) (c .before .before .before .before .before .before .before .before .before .before .before .before .before .before .before .before .before .before .before .before .args .table .now) (c .before .before .before .before .before .before .before .before .before .before .before .before .before .before .before .before .before .before .before .before .args .paths) (c .before .before .before .before .before .before .before .before .child .result) (c .before .before .before .before .before .before .before .before .before .before .before .before .before .before .before .before .before .before .before .before .args .src .now) (c .before .before .before .before .before .before .before .before .before .before .before .before .before .before .before .before .before .before .before .before .args .tape .now) (c .before .before .before .before .before .before .before .before .before .before .before .before .element-at .result + 1) (nextAt (c .before .before .before .before .before .before .before .before .before .before .before .before .before .before .before .before .before .before .before .before .args .tape .now) (c .before .before .before .before .before .before .before .before .before .before .before .before .element-at .result)) (c .before .before .before .before .before .before .before .before .before .before .before .before .before .before .before .before .before .before .before .before .args .vsrc .now) (c .before .before .before .before .before .before .before .before .before .before .before .before .before .before .before .before .before .before .before .before .args .vtape .now) (c .before .before .before .before .before .before .before .before .before .before .before .before .before .before .before .before .before .before .before .before .args .q + 1) (nextAt (c .before .before .before .before .before .before .before .before .before .before .before .before .before .before .before .before .before .before .before .before .args .vtape .now) (c .before .before .before .before .before .before .before .before .before .before .before .before .before .before .before .before .before .before .before .before .args .q)) (c .before .before .before .before .before .before .before .before .before .before .before .before .before .before .before .before .before .before .before .before .args .n) (c .before .before .before .before .before .before .before .before .before .before .before .set-of .result .words) K (w ▸ m) (setIn (c .before .before .before .before .before .before .before .before .before .before .before .before .before .before .before .before .before .before .before .before .args .n) u o) k f
+      → Both (c .before .before .before .before .before .before .before .before .before .before .before .before .before .before .before .before .before .before .before .before .args .text .now) (c .before .before .before .before .before .before .before .before .before .before .before .before .before .before .before .before .before .before .before .before .args .table .now) (c .before .before .before .before .before .before .before .before .before .before .before .before .before .before .before .before .before .before .before .before .args .paths) (c .before .before .before .before .before .before .before .before .before .before .before .before .before .before .before .before .before .before .before .before .args .place) (c .before .before .before .before .before .before .before .before .before .before .before .before .before .before .before .before .before .before .before .before .args .src .now) (c .before .before .before .before .before .before .before .before .before .before .before .before .before .before .before .before .before .before .before .before .args .tape .now) (c .before .before .before .before .before .before .before .before .before .before .before .before .before .before .before .before .before .before .before .before .args .p) (c .before .before .before .before .before .before .before .before .before .before .before .before .before .before .before .before .before .before .before .before .args .vsrc .now) (c .before .before .before .before .before .before .before .before .before .before .before .before .before .before .before .before .before .before .before .before .args .vtape .now) (c .before .before .before .before .before .before .before .before .before .before .before .before .before .before .before .before .before .before .before .before .args .q) (c .before .before .before .before .before .before .before .before .before .before .before .before .before .before .before .before .before .before .before .before .args .n) (c .before .before .before .before .before .before .before .before .before .before .before .before .before .before .before .before .before .before .before .before .args .around .start) (c .before .before .before .before .before .before .before .before .before .before .before .before .before .before .before .before .before .before .before .before .args .around .end) K w u o m k f
+      → Held (c .before .before .before .before .before .before .before .before .before .before .before .before .before .before .before .before .before .before .before .before .args .text .now) (c .before .before .before .before .before .before .before .before .before .before .before .before .before .before .before .before .before .before .before .before .args .table .now) (c .before .before .before .before .before .before .before .before .before .before .before .before .before .before .before .before .before .before .before .before .args .paths) (c .before .before .before .before .before .before .before .before .child .result) (c .before .before .before .before .before .before .before .before .before .before .before .before .before .before .before .before .before .before .before .before .args .src .now) (c .before .before .before .before .before .before .before .before .before .before .before .before .before .before .before .before .before .before .before .before .args .tape .now) (c .before .before .before .before .before .before .before .before .before .before .before .before .element-at .result + 1) (nextAt (c .before .before .before .before .before .before .before .before .before .before .before .before .before .before .before .before .before .before .before .before .args .tape .now) (c .before .before .before .before .before .before .before .before .before .before .before .before .element-at .result)) (c .before .before .before .before .before .before .before .before .before .before .before .before .before .before .before .before .before .before .before .before .args .vsrc .now) (c .before .before .before .before .before .before .before .before .before .before .before .before .before .before .before .before .before .before .before .before .args .vtape .now) (c .before .before .before .before .before .before .before .before .before .before .before .before .before .before .before .before .before .before .before .before .args .q + 1) (nextAt (c .before .before .before .before .before .before .before .before .before .before .before .before .before .before .before .before .before .before .before .before .args .vtape .now) (c .before .before .before .before .before .before .before .before .before .before .before .before .before .before .before .before .before .before .before .before .args .q)) (c .before .before .before .before .before .before .before .before .before .before .before .before .before .before .before .before .before .before .before .before .args .n) (c .before .before .before .before .before .before .before .before .before .before .before .set-of .result .start) (c .before .before .before .before .before .before .before .before .before .before .before .set-of .result .end) K (w ▸ m) (setIn (c .before .before .before .before .before .before .before .before .before .before .before .before .before .before .before .before .before .before .before .before .args .n) u o) k f
   inner c {K} {w} {u} {o} {m} {k} b =
       let s = spot (c .before .before .before .before .before .before .before .before .before .before .before .before) (b .at) in
       rw s (inner-held b (rw (c .before .before .before .before .before .before .before .before .before .before .view-at .ensures, s, b .at .node .bytes-are) at (c .before .before .before .before .before .before .before .before .child .ensures K w (b .tabled) (b .place-is))) (c .before .before .before .before .before .before .before .before .before .before .before .set-of .ensures (c .before .before .before .before .before .before .before .before .before .before .before .before .before .before .before .before .before .before .before .before .args .n) u o m k (omega (arith, c .before .before .before .before .before .before .before .before .before .before .before .before .before .before .before .before .before .before .before .before .pre .1 .1)) (b .at) (b .own-set) (b .set)))
@@ -352,7 +353,9 @@ module _ (t : ℕ) where
       rw (c .before .view-at .ensures, spot (c .before .before .before) (h .at)) (record { keyList = c .before .before .before .before .before .before .before .before .before .before .before .pre .1 .0 .keyList; path = c .before .before .before .before .before .before .before .before .before .before .before .pre .1 .0 .path; table = h .tabled; place-is = h .place-is }, omega arith, h .at .node .within)
 
   write-both-open-set-requires : write-both-lts.Need-open-set-requires (write-both-calls t) (write-both-at t) write-both.Post
-  write-both-open-set-requires c κs = (at-front (c .before .before .before .before .before .before .before .before .before .before .before .before .before .pre .1 .0 .own) (c .before .before .before .before .before .before .before .before .before .before .before .before .before .pre .1 .0 .both .at) .held, c .before .before .before .before .before .before .before .before .before .before .before .before .before .pre .1 .1, omega (arith, c .before .before .before .before .before .before .before .before .before .before .before .before .before .pre .1 .4))
+  write-both-open-set-requires c κs = let b = c .before .before .before .before .before .before .before .before .before .before .before .before .before .pre .1 .0 in
+      let y = c .before .before .before .before .set-of .ensures (c .before .before .before .before .before .before .before .before .before .before .before .before .before .args .n) (b .times) (b .own) (b .name) (b .kids) (omega (arith, c .before .before .before .before .before .before .before .before .before .before .before .before .before .pre .1 .1)) (b .both .at) (b .both .own-set) (b .both .set) in
+      (at-front (b .own) (b .both .at) .held, y .ordered, y .within, y .short, says-set y, c .before .before .before .before .before .before .before .before .before .before .before .before .before .pre .1 .1, omega (arith, c .before .before .before .before .before .before .before .before .before .before .before .before .before .pre .1 .4))
 
   write-both-put-open-requires : write-both-lts.Need-put-open-requires (write-both-calls t) (write-both-at t) write-both.Post
   write-both-put-open-requires c κs =
@@ -403,7 +406,7 @@ module _ (t : ℕ) where
       let s = spot (c .before .before .before .before .before .before .before .before .before .before .before .before .before .before .before .before .before .before .before .before .before .before .before .before) (b .at) in
       let e = c .before .before .before .before .before .before .before .before .before .before .before .before .before .before .before .before .before .before .before .before .before .before .view-at .ensures in
       both-grew (c .before .before .before .before .before .before .before .before .before .before .before .before .before .before .before .before .before .before .before .before .before .before .before .before .before .before .before .before .before .before .before .before .args .n) u o m
-      (c .before .before .before .before .before .before .before .before .before .before .before .before .before .before .before .before .before .before .open-set .ensures .0 (c .before .before .before .before .before .before .before .before .before .before .before .before .before .before .before .before .before .before .before .before .before .before .before .before .before .before .before .before .before .before .before .before .args .src .now) o m k (setIn (c .before .before .before .before .before .before .before .before .before .before .before .before .before .before .before .before .before .before .before .before .before .before .before .before .before .before .before .before .before .before .before .before .args .n) u o) (b .at) (c .before .before .before .before .before .before .before .before .before .before .before .before .before .before .before .before .before .before .before .before .before .before .before .set-of .ensures (c .before .before .before .before .before .before .before .before .before .before .before .before .before .before .before .before .before .before .before .before .before .before .before .before .before .before .before .before .before .before .before .before .args .n) u o m k (omega (arith, c .before .before .before .before .before .before .before .before .before .before .before .before .before .before .before .before .before .before .before .before .before .before .before .before .before .before .before .before .before .before .before .before .pre .1 .1)) (b .at) (b .own-set) (b .set)))
+      (c .before .before .before .before .before .before .before .before .before .before .before .before .before .before .before .before .before .before .open-set .ensures .0 o m k (setIn (c .before .before .before .before .before .before .before .before .before .before .before .before .before .before .before .before .before .before .before .before .before .before .before .before .before .before .before .before .before .before .before .before .args .n) u o) (b .at) (c .before .before .before .before .before .before .before .before .before .before .before .before .before .before .before .before .before .before .before .before .before .before .before .set-of .ensures (c .before .before .before .before .before .before .before .before .before .before .before .before .before .before .before .before .before .before .before .before .before .before .before .before .before .before .before .before .before .before .before .before .args .n) u o m k (omega (arith, c .before .before .before .before .before .before .before .before .before .before .before .before .before .before .before .before .before .before .before .before .before .before .before .before .before .before .before .before .before .before .before .before .pre .1 .1)) (b .at) (b .own-set) (b .set)))
       (rw (e, s, b .at .node .bytes-are) at (c .before .before .before .before .before .before .before .before .before .before .before .before .before .before .put-open .ensures))
       ((rw (e, c .before .before .before .before .before .before .before .before .before .before .before .before .before .before .before .before .before .before .before .before .before .view-at2 .ensures) at (c .before .before .before .before .before .before .before .before .before .before .write-added .ensures)) K (w ▸ m) (setIn (c .before .before .before .before .before .before .before .before .before .before .before .before .before .before .before .before .before .before .before .before .before .before .before .before .before .before .before .before .before .before .before .before .args .n) u o) k f (inner (c .before .before .before .before .before .before .before .before .before .before .before .before) b))
       (rw (e, s, b .at .node .bytes-are) at (c .before .before .before .before .before .before .put-close .ensures))

@@ -22,7 +22,7 @@ returns-3 c = λ f h.
     (give-lacks (earlierText (a .i) f) (a .out .now) (c .before .lacks-room .ensures f h) (c .if3 .taken))
 
 back-requires : tie.Need-back-requires
-back-requires c κs = back-asks (record { count = c .before .before .before .before .before .before .before .before .args .n; lies = c .before .before .before .before .before .before .before .before .pre; reach = c .before .before .before .if2 .left })
+back-requires c κs = back-asks (record { count = c .before .before .before .before .before .before .before .before .args .n; lies = c .before .before .before .before .before .before .before .before .pre; reach = c .before .before .before .if2 .left; some-there = c .before .before .before .before .if1 .left })
 
 same-length : tie.Need-same-length
 same-length c = search needs

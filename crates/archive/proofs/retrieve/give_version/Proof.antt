@@ -23,7 +23,7 @@ returns-3 c = λ f h.
     (give-lacks (versionText (a .i) f) (a .out .now) (c .before .lacks-room .ensures f h) (c .if3 .taken))
 
 write-version-requires : tie.Need-write-version-requires
-write-version-requires c κs = version-asks (record { count = c .before .before .before .before .before .before .before .before .args .n; lies = c .before .before .before .before .before .before .before .before .pre; reach = c .before .before .before .if2 .left })
+write-version-requires c κs = version-asks (record { count = c .before .before .before .before .before .before .before .before .args .n; lies = c .before .before .before .before .before .before .before .before .pre; reach = c .before .before .before .if2 .left; some-there = c .before .before .before .before .if1 .left })
 
 same-length : tie.Need-same-length
 same-length c = search needs

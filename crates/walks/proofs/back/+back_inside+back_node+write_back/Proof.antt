@@ -5,14 +5,16 @@ use native.Mathlib.Omega.{arith}
 use mathlib.Core.Path.{_≡_, sym, _∙_}
 use borrow.Author.Needs.{needs}
 use Rattle.xml.specs.Forest.{Forest}
-use Rattle.xml.specs.Tape.{headAt, nextAt, Tape}
+use Rattle.xml.specs.Tape.{headAt, nextAt, startIn, endIn, Tape}
 use Rattle.xml.specs.TapeLaws.{Front, OneRun, bytesAt, front, one-run, tape-le}
 use Rattle.timestamp.specs.Times.{Times}
-use Rattle.timestamp.specs.Set.{setOf}
-use Rattle.timestamp.specs.Listed.{listed}
+use Rattle.timestamp.specs.Set.{cutAt}
+use Rattle.timestamp.specs.Change.{Changes}
+use Rattle.versions.specs.Walk.{timesIn}
 use Rattle.versions.specs.Rendered.{Going, node-part, open-room, going-none, going-more, going-done, going-length, text-renders, element-renders}
-use Rattle.versions.specs.Timely.{Timely, CutTo, timely-first, timely-rest, timely-inside, timely-text}
-use Rattle.versions.specs.BackText.{backText, back-pieces, back-length, times-room, back-dropped, back-bare, back-wrapped}
+use Rattle.versions.specs.Timely.{Timely, timely-first, timely-rest, timely-inside, timely-set}
+use Rattle.versions.specs.BackText.{backText, back-pieces, back-length}
+use Rattle.walks.specs.Trimmed.{cutText, Trimmed, trimmed-short, trimmed-room, cut-trimmed, cut-times, node-dropped, node-bare, node-wrapped}
 use borrow.Fn.Kinds.{In}
 use borrow.Fn.PlainCycle.{Measures, is, falls, and}
 use Rattle.walks.proofs.back.back_inside.Reads as back-inside
@@ -24,10 +26,9 @@ use Rattle.walks.proofs.back.+back_inside+back_node+write_back.Lts-back
 use Rattle.walks.proofs.back.write_back.Reads as write-back
 use Rattle.walks.proofs.back.write_back.Kinds as write-back-kinds
 use Rattle.walks.proofs.back.+back_inside+back_node+write_back.Lts-write_back as write-back-lts
+use Rattle.timestamp.proofs.change.cut_at.Reads as cut-at-reads
 use Rattle.walks.proofs.back.put_cut.Reads as put-cut-reads
-use Rattle.walks.proofs.back.times_to.Reads as times-to-reads
-use Rattle.timestamp.proofs.Timestamp.is_empty.Reads as is-empty-reads
-use Rattle.timestamp.proofs.Timestamp.same.Reads as same-reads
+use Rattle.walks.proofs.back.same_cut.Reads as same-cut-reads
 use Rattle.xml.proofs.tape.is_run.Reads as is-run-reads
 use Rattle.xml.proofs.tape.view_at.Reads as view-at-reads
 use Rattle.xml.proofs.writer.put_close.Reads as put-close-reads
@@ -67,18 +68,18 @@ abbrev back-inside-calls : ℕ → back-inside-lts.Claims
 back-inside-calls t = (is-run-reads.Asked, is-run-reads.Learnt, view-at-reads.Asked, view-at-reads.Learnt, put-text-reads.Asked, put-text-reads.Learnt, write-back-below t, write-back.Post)
 
 abbrev back-node-calls : ℕ → back-node-lts.Claims
-back-node-calls t = (view-at-reads.Asked, view-at-reads.Learnt, put-text-reads.Asked, put-text-reads.Learnt, put-open-reads.Asked, put-open-reads.Learnt, back-inside-below t, back-inside.Post, put-close-reads.Asked, put-close-reads.Learnt, times-to-reads.Asked, times-to-reads.Learnt, is-empty-reads.Asked, is-empty-reads.Learnt, same-reads.Asked, same-reads.Learnt, put-cut-reads.Asked, put-cut-reads.Learnt)
+back-node-calls t = (view-at-reads.Asked, view-at-reads.Learnt, put-text-reads.Asked, put-text-reads.Learnt, put-open-reads.Asked, put-open-reads.Learnt, back-inside-below t, back-inside.Post, put-close-reads.Asked, put-close-reads.Learnt, cut-at-reads.Asked, cut-at-reads.Learnt, same-cut-reads.Asked, same-cut-reads.Learnt, put-cut-reads.Asked, put-cut-reads.Learnt)
 
 abbrev write-back-calls : ℕ → write-back-lts.Claims
 write-back-calls t = (back-node-below t, back-node.Post, view-at-reads.Asked, view-at-reads.Learnt)
 
 abbrev write-back-Inv-loop : write-back-lts.InvT-loop
-write-back-Inv-loop src tape lo hi i around out₀ at p₀ to₀ out p to =
-    (lo ≤ p) × Timely i src tape p hi × (to + 163840 * (hi - p) ≤ at + 163840 * (hi - lo))
-    × ((f : Forest) → Tape src tape lo hi f → Going (backText i (listed i (setOf (around .words)))) src tape p hi (backText i (listed i (setOf (around .words))) f) out₀ at to out)
+write-back-Inv-loop src tape lo hi i a around out₀ at p₀ to₀ out p to =
+    let w = backText i (timesIn i (cutText src a (around .to) (around .tail) i)) in
+    (lo ≤ p) × Timely i src tape p hi × (to + 163840 * (hi - p) ≤ at + 163840 * (hi - lo)) × ((f : Forest) → Tape src tape lo hi f → Going w src tape p hi (w f) out₀ at to out)
 
 abbrev write-back-μ-loop : write-back-lts.MeasureT-loop
-write-back-μ-loop src tape lo hi i around out₀ at p₀ to₀ out p to = hi - p
+write-back-μ-loop src tape lo hi i a around out₀ at p₀ to₀ out p to = hi - p
 
 module _ (t : ℕ) where
   inside-run : (c : back-inside-lts.Then1 (back-inside-calls t) (back-inside-at t) back-inside.Post) → OneRun (c .before .before .before .before .before .args .src .now) (c .before .before .before .before .before .args .tape .now) (c .before .before .before .before .before .args .lo) (c .before .before .before .before .before .args .hi)
@@ -91,7 +92,7 @@ module _ (t : ℕ) where
   back-inside-view-at-requires c κs = inside-run c .node .held
 
   back-inside-put-text-requires : back-inside-lts.Need-put-text-requires (back-inside-calls t) (back-inside-at t) back-inside.Post
-  back-inside-put-text-requires c κs = rw (c .before .view-at .ensures) (omega (arith, inside-run (c .before .before) .node .within, c .before .before .before .before .before .before .before .pre .1 .2))
+  back-inside-put-text-requires c κs = rw (c .before .view-at .ensures) (omega (arith, inside-run (c .before .before) .node .within, c .before .before .before .before .before .before .before .pre .1 .3))
 
   back-inside-same-length : back-inside-lts.Need-same-length (back-inside-calls t) (back-inside-at t) back-inside.Post
   back-inside-same-length c = search needs
@@ -99,7 +100,7 @@ module _ (t : ℕ) where
   back-inside-returns : back-inside-lts.Need-returns (back-inside-calls t) (back-inside-at t) back-inside.Post
   back-inside-returns c f h =
       let o = inside-run (c .before .before .before .before .before) in
-      text-renders (back-pieces (c .before .before .before .before .before .before .before .before .before .before .args .i) (listed (c .before .before .before .before .before .before .before .before .before .before .args .i) (setOf (c .before .before .before .before .before .before .before .before .before .before .args .around .words)))) (o .node .forward) (o .run) (rw (c .before .before .before .before .view-at .ensures) at (c .before .before .put-text .ensures)) f (rw (o .ends) at h)
+      text-renders (back-pieces (c .before .before .before .before .before .before .before .before .before .before .args .i) _) (o .node .forward) (o .run) (rw (c .before .before .before .before .view-at .ensures) at (c .before .before .put-text .ensures)) f (rw (o .ends) at h)
 
   back-inside-write-back-requires : back-inside-lts.Need-write-back-requires (back-inside-calls t) (back-inside-at t) back-inside.Post
   back-inside-write-back-requires c κs = (omega (arith, c .before .before .before .before .before .before .pre .0), c .before .before .before .before .before .before .pre .1)
@@ -118,22 +119,32 @@ module _ (t : ℕ) where
   low c = omega (arith, c .pre .1 .1 .reach, c .pre .1 .1 .small)
 
   abbrev around : (c : back-node-lts.Start (back-node-calls t) (back-node-at t) back-node.Post) → Times
-  around c = listed (c .args .i) (setOf (c .args .around .words))
+  around c = timesIn (c .args .i) (cutText (c .args .src .now) (c .args .a) (c .args .around .to) (c .args .around .tail) (c .args .i))
 
   times : (c : back-node-lts.Else2 (back-node-calls t) (back-node-at t) back-node.Post) → headAt (c .before .before .before .before .before .before .before .before .args .tape .now) (c .before .before .before .before .before .before .before .before .args .p) % 4 ≡ 2
   times c =
       let v = c .before .before .before .before .view-at .ensures in
       omega (arith, rw v at (c .before .before .if1 .left), rw v at (c .if2 .left), here (c .before .before .before .before .before .before .before .before) .kind)
 
-  held : (c : back-node-lts.After-times-to (back-node-calls t) (back-node-at t) back-node.Post)
-      → CutTo (c .before .before .before .before .before .before .before .before .before .before .args .i) (bytesAt (c .before .before .before .before .before .before .before .before .before .before .args .src .now) (c .before .before .before .before .before .before .before .before .before .before .args .tape .now) (c .before .before .before .before .before .before .before .before .before .before .args .p)) (c .times-to .result .stamp .words) (c .times-to .result .whole)
-  held c = rw (c .before .before .before .before .before .before .view-at .ensures, node-part (c .before .before .before .before .before .before .before .before .before .before .args .src .now) (c .before .before .before .before .before .before .before .before .before .before .args .tape .now) (c .before .before .before .before .before .before .before .before .before .before .args .p)) at (c .times-to .ensures)
+  changed : (c : back-node-lts.After-cut-at (back-node-calls t) (back-node-at t) back-node.Post) → Changes (bytesAt (c .before .before .before .before .before .before .before .before .before .before .args .src .now) (c .before .before .before .before .before .before .before .before .before .before .args .tape .now) (c .before .before .before .before .before .before .before .before .before .before .args .p)) (cutAt (c .before .before .before .before .before .before .before .before .before .before .args .i)) (c .before .before .before .before .before .before .before .before .before .before .args .i) (c .cut-at .result .to) (c .cut-at .result .tail)
+  changed c = rw (c .before .before .before .before .before .before .view-at .ensures, node-part (c .before .before .before .before .before .before .before .before .before .before .args .src .now) (c .before .before .before .before .before .before .before .before .before .before .args .tape .now) (c .before .before .before .before .before .before .before .before .before .before .args .p)) at (c .cut-at .ensures)
+
+  trim : (c : back-node-lts.After-cut-at (back-node-calls t) (back-node-at t) back-node.Post) → Trimmed (c .before .before .before .before .before .before .before .before .before .before .args .i) (c .before .before .before .before .before .before .before .before .before .before .args .src .now) (startIn (headAt (c .before .before .before .before .before .before .before .before .before .before .args .tape .now) (c .before .before .before .before .before .before .before .before .before .before .args .p))) (c .cut-at .result .to) (c .cut-at .result .tail)
+  trim c =
+      cut-trimmed (c .before .before .before .before .before .before .before .before .before .before .args .i) (c .before .before .before .before .before .before .before .before .before .before .args .src .now) (startIn (headAt (c .before .before .before .before .before .before .before .before .before .before .args .tape .now) (c .before .before .before .before .before .before .before .before .before .before .args .p))) (endIn (headAt (c .before .before .before .before .before .before .before .before .before .before .args .tape .now) (c .before .before .before .before .before .before .before .before .before .before .args .p))) (c .cut-at .result .to) (c .cut-at .result .tail) (omega arith) (here (c .before .before .before .before .before .before .before .before .before .before) .within) (timely-set (c .before .before .before .before .before .before .before .before .before .before .pre .1 .1) (c .before .before .before .before .before .before .before .before .before .before .pre .1 .0) (times (c .before .before))) (changed c)
+
+  abbrev inner : (c : back-node-lts.After-cut-at (back-node-calls t) (back-node-at t) back-node.Post) → Times
+  inner c = timesIn (c .before .before .before .before .before .before .before .before .before .before .args .i) (cutText (c .before .before .before .before .before .before .before .before .before .before .args .src .now) (startIn (headAt (c .before .before .before .before .before .before .before .before .before .before .args .tape .now) (c .before .before .before .before .before .before .before .before .before .before .args .p))) (c .cut-at .result .to) (c .cut-at .result .tail) (c .before .before .before .before .before .before .before .before .before .before .args .i))
+
+  same-times : (c : back-node-lts.After-cut-at (back-node-calls t) (back-node-at t) back-node.Post) → inner c ≡ timesIn (c .before .before .before .before .before .before .before .before .before .before .args .i) (bytesAt (c .before .before .before .before .before .before .before .before .before .before .args .src .now) (c .before .before .before .before .before .before .before .before .before .before .args .tape .now) (c .before .before .before .before .before .before .before .before .before .before .args .p))
+  same-times c =
+      cut-times (c .before .before .before .before .before .before .before .before .before .before .args .i) (c .before .before .before .before .before .before .before .before .before .before .args .src .now) (startIn (headAt (c .before .before .before .before .before .before .before .before .before .before .args .tape .now) (c .before .before .before .before .before .before .before .before .before .before .args .p))) (endIn (headAt (c .before .before .before .before .before .before .before .before .before .before .args .tape .now) (c .before .before .before .before .before .before .before .before .before .before .args .p))) (c .cut-at .result .to) (c .cut-at .result .tail) (omega arith) (here (c .before .before .before .before .before .before .before .before .before .before) .within) (timely-set (c .before .before .before .before .before .before .before .before .before .before .pre .1 .1) (c .before .before .before .before .before .before .before .before .before .before .pre .1 .0) (times (c .before .before))) (changed c) (low (c .before .before .before .before .before .before .before .before .before .before))
 
   back-node-view-at-requires : back-node-lts.Need-view-at-requires (back-node-calls t) (back-node-at t) back-node.Post
   back-node-view-at-requires c κs = here (c .before .before .before) .held
 
   back-node-put-text-requires : back-node-lts.Need-put-text-requires (back-node-calls t) (back-node-at t) back-node.Post
-  back-node-put-text-requires c κs = rw (c .before .before .before .view-at .ensures) (omega (arith, here (c .before .before .before .before .before .before .before) .within, c .before .before .before .before .before .before .before .pre .1 .3))
+  back-node-put-text-requires c κs = rw (c .before .before .before .view-at .ensures) (omega (arith, here (c .before .before .before .before .before .before .before) .within, c .before .before .before .before .before .before .before .pre .1 .4))
 
   back-node-same-length : back-node-lts.Need-same-length (back-node-calls t) (back-node-at t) back-node.Post
   back-node-same-length c = search needs
@@ -144,7 +155,7 @@ module _ (t : ℕ) where
       text-renders (back-pieces (c .before .before .before .before .before .before .before .before .before .before .args .i) (around (c .before .before .before .before .before .before .before .before .before .before))) (c .before .before .before .before .before .before .before .before .before .before .pre .1 .0) (rw v at (c .before .before .before .before .if1 .taken)) (rw v at (c .before .before .put-text .ensures))
 
   back-node-put-open-requires : back-node-lts.Need-put-open-requires (back-node-calls t) (back-node-at t) back-node.Post
-  back-node-put-open-requires c κs = rw (c .before .before .before .before .before .view-at .ensures) (omega (arith, here (c .before .before .before .before .before .before .before .before .before) .within, c .before .before .before .before .before .before .before .before .before .pre .1 .3))
+  back-node-put-open-requires c κs = rw (c .before .before .before .before .before .view-at .ensures) (omega (arith, here (c .before .before .before .before .before .before .before .before .before) .within, c .before .before .before .before .before .before .before .before .before .pre .1 .4))
 
   back-node-add-back-inside : back-node-lts.Need-add-back-inside (back-node-calls t) (back-node-at t) back-node.Post
   back-node-add-back-inside c = omega (arith, here (c .before .before .before .before .before .before .before .before .before .before .before .before) .held)
@@ -152,17 +163,19 @@ module _ (t : ℕ) where
   back-node-back-inside-requires : back-node-lts.Need-back-inside-requires (back-node-calls t) (back-node-at t) back-node.Post
   back-node-back-inside-requires c κs =
       let v = c .before .before .before .before .before .before .before .before .before .view-at .ensures in
+      let q = c .before .before .before .before .before .before .before .before .before .before .before .before .before .pre in
       let k = rw v at (c .before .before .before .before .before .before .before .if1 .left) in
       let o = open-room (here (c .before .before .before .before .before .before .before .before .before .before .before .before .before)) (rw v at (c .before .before .before .put-open .ensures)) in
-      rw v (omega (arith, c .before .before .before .before .before .before .before .before .before .before .before .before .before .pre .0, c .before .before .before .before .before .before .before .before .before .before .before .before .before .pre .1 .0), (timely-inside (c .before .before .before .before .before .before .before .before .before .before .before .before .before .pre .1 .1) (c .before .before .before .before .before .before .before .before .before .before .before .before .before .pre .1 .0) k, c .before .before .before .before .before .before .before .before .before .before .before .before .before .pre .1 .2, omega (arith, c .before .before .before .before .before .before .before .before .before .before .before .before .before .pre .1 .3, c .before .before .before .before .before .before .before .before .before .before .before .before .before .pre .1 .0)))
+      rw v (omega (arith, q .0, q .1 .0), (timely-inside (q .1 .1) (q .1 .0) k, q .1 .2, q .1 .3, omega (arith, q .1 .4, q .1 .0, o)))
 
   back-node-put-close-requires : back-node-lts.Need-put-close-requires (back-node-calls t) (back-node-at t) back-node.Post
   back-node-put-close-requires c κs =
       let v = c .before .before .before .before .before .before .before .before .before .before .before .before .before .view-at .ensures in
-      let x = timely-inside (c .before .before .before .before .before .before .before .before .before .before .before .before .before .before .before .before .before .pre .1 .1) (c .before .before .before .before .before .before .before .before .before .before .before .before .before .before .before .before .before .pre .1 .0) (rw v at (c .before .before .before .before .before .before .before .before .before .before .before .if1 .left)) in
+      let q = c .before .before .before .before .before .before .before .before .before .before .before .before .before .before .before .before .before .pre in
+      let x = timely-inside (q .1 .1) (q .1 .0) (rw v at (c .before .before .before .before .before .before .before .before .before .before .before .if1 .left)) in
       let k = rw v at (c .before .before .before .back-inside .ensures) in
       let o = open-room (here (c .before .before .before .before .before .before .before .before .before .before .before .before .before .before .before .before .before)) (rw v at (c .before .before .before .before .before .before .before .put-open .ensures)) in
-      rw v (omega (arith, here (c .before .before .before .before .before .before .before .before .before .before .before .before .before .before .before .before .before) .within, k (x .forest) (x .tape) .place, back-length (c .before .before .before .before .before .before .before .before .before .before .before .before .before .before .before .before .before .args .i) (around (c .before .before .before .before .before .before .before .before .before .before .before .before .before .before .before .before .before)) x, c .before .before .before .before .before .before .before .before .before .before .before .before .before .before .before .before .before .pre .1 .3, c .before .before .before .before .before .before .before .before .before .before .before .before .before .before .before .before .before .pre .1 .0))
+      rw v (omega (arith, here (c .before .before .before .before .before .before .before .before .before .before .before .before .before .before .before .before .before) .within, k (x .forest) (x .tape) .place, back-length (c .before .before .before .before .before .before .before .before .before .before .before .before .before .before .before .before .before .args .i) (around (c .before .before .before .before .before .before .before .before .before .before .before .before .before .before .before .before .before)) x, q .1 .4, q .1 .0, o))
 
   back-node-same-length-2 : back-node-lts.Need-same-length-2 (back-node-calls t) (back-node-at t) back-node.Post
   back-node-same-length-2 c = search needs
@@ -172,84 +185,83 @@ module _ (t : ℕ) where
       let v = c .before .before .before .before .before .before .before .before .before .before .before .before .before .before .before .before .view-at .ensures in
       element-renders (back-pieces (c .before .before .before .before .before .before .before .before .before .before .before .before .before .before .before .before .before .before .before .before .args .i) (around (c .before .before .before .before .before .before .before .before .before .before .before .before .before .before .before .before .before .before .before .before))) (c .before .before .before .before .before .before .before .before .before .before .before .before .before .before .before .before .before .before .before .before .pre .1 .0) (rw v at (c .before .before .before .before .before .before .before .before .before .before .before .before .if2 .taken)) (rw v at (c .before .before .before .before .before .before .before .before .before .before .put-open .ensures)) (rw v at (c .before .before .before .before .before .before .back-inside .ensures)) (rw v at (c .before .before .put-close .ensures))
 
-  back-node-sub-times-to : back-node-lts.Need-sub-times-to (back-node-calls t) (back-node-at t) back-node.Post
-  back-node-sub-times-to c = rw (c .before .before .before .before .view-at .ensures) (omega arith)
+  back-node-sub-cut-at : back-node-lts.Need-sub-cut-at (back-node-calls t) (back-node-at t) back-node.Post
+  back-node-sub-cut-at c = rw (c .before .before .before .before .view-at .ensures) (omega arith)
 
-  back-node-part-times-to-start : back-node-lts.Need-part-times-to-start (back-node-calls t) (back-node-at t) back-node.Post
-  back-node-part-times-to-start c = rw (c .before .before .before .before .view-at .ensures) (omega arith)
+  back-node-part-cut-at-start : back-node-lts.Need-part-cut-at-start (back-node-calls t) (back-node-at t) back-node.Post
+  back-node-part-cut-at-start c = rw (c .before .before .before .before .view-at .ensures) (omega arith)
 
-  back-node-part-times-to-end : back-node-lts.Need-part-times-to-end (back-node-calls t) (back-node-at t) back-node.Post
-  back-node-part-times-to-end c = rw (c .before .before .before .before .view-at .ensures) (omega (arith, here (c .before .before .before .before .before .before .before .before) .within))
+  back-node-part-cut-at-end : back-node-lts.Need-part-cut-at-end (back-node-calls t) (back-node-at t) back-node.Post
+  back-node-part-cut-at-end c = rw (c .before .before .before .before .view-at .ensures) (omega (arith, here (c .before .before .before .before .before .before .before .before) .within))
 
-  back-node-times-to-requires : back-node-lts.Need-times-to-requires (back-node-calls t) (back-node-at t) back-node.Post
-  back-node-times-to-requires c κs =
-      rw (c .before .before .before .before .before .view-at .ensures, node-part (c .before .before .before .before .before .before .before .before .before .args .src .now) (c .before .before .before .before .before .before .before .before .before .args .tape .now) (c .before .before .before .before .before .before .before .before .before .args .p)) (low (c .before .before .before .before .before .before .before .before .before), timely-text (c .before .before .before .before .before .before .before .before .before .pre .1 .1) (c .before .before .before .before .before .before .before .before .before .pre .1 .0) (times (c .before)))
+  back-node-cut-at-requires : back-node-lts.Need-cut-at-requires (back-node-calls t) (back-node-at t) back-node.Post
+  back-node-cut-at-requires c κs =
+      rw (c .before .before .before .before .before .view-at .ensures, node-part (c .before .before .before .before .before .before .before .before .before .args .src .now) (c .before .before .before .before .before .before .before .before .before .args .tape .now) (c .before .before .before .before .before .before .before .before .before .args .p)) (timely-set (c .before .before .before .before .before .before .before .before .before .pre .1 .1) (c .before .before .before .before .before .before .before .before .before .pre .1 .0) (times (c .before)))
 
-  back-node-is-empty-requires : back-node-lts.Need-is-empty-requires (back-node-calls t) (back-node-at t) back-node.Post
-  back-node-is-empty-requires c κs = search needs
+  back-node-add-if3 : back-node-lts.Need-add-if3 (back-node-calls t) (back-node-at t) back-node.Post
+  back-node-add-if3 c = let x = trim (c .before) in omega (arith, x .inside, x .known, trimmed-short x)
 
   back-node-returns-3 : back-node-lts.Need-returns-3 (back-node-calls t) (back-node-at t) back-node.Post
-  back-node-returns-3 c =
-      let u = held (c .before .before .before) in
-      back-dropped (c .before .before .before .before .before .before .before .before .before .before .before .before .before .args .i) (setOf (c .before .before .before .before .before .before .before .before .before .before .before .before .before .args .around .words)) (setOf (c .before .before .before .times-to .result .stamp .words)) (low (c .before .before .before .before .before .before .before .before .before .before .before .before .before)) (c .before .before .before .before .before .before .before .before .before .before .before .before .before .pre .1 .2) (u .only) (c .before .before .before .before .before .before .before .before .before .before .before .before .before .pre .1 .0) (times (c .before .before .before .before .before)) (u .listed-is) (sym (c .before .is-empty .ensures) ∙ c .if3 .taken)
+  back-node-returns-3 c = node-dropped (c .before .before .before .before .before .before .before .before .before .before .before .before .args .tape .now) (c .before .before .before .before .before .before .before .before .before .before .before .before .args .p) (low (c .before .before .before .before .before .before .before .before .before .before .before .before)) (c .before .before .before .before .before .before .before .before .before .before .before .before .pre .1 .2) (c .before .before .before .before .before .before .before .before .before .before .before .before .pre .1 .3) (trim (c .before .before)) (c .before .before .before .before .before .before .before .before .before .before .before .before .pre .1 .0) (times (c .before .before .before .before)) (same-times (c .before .before)) (c .if3 .taken)
 
-  back-node-same-requires : back-node-lts.Need-same-requires (back-node-calls t) (back-node-at t) back-node.Post
-  back-node-same-requires c κs = search needs
+  back-node-same-cut-requires : back-node-lts.Need-same-cut-requires (back-node-calls t) (back-node-at t) back-node.Post
+  back-node-same-cut-requires c κs = rw (c .before .before .before .before .before .before .before .before .view-at .ensures) (c .before .before .before .before .before .before .before .before .before .before .before .before .pre .1 .2, low (c .before .before .before .before .before .before .before .before .before .before .before .before), c .before .before .before .before .before .before .before .before .before .before .before .before .pre .1 .3, trim (c .before .before))
 
   back-node-add-back-inside-2 : back-node-lts.Need-add-back-inside-2 (back-node-calls t) (back-node-at t) back-node.Post
-  back-node-add-back-inside-2 c = omega (arith, here (c .before .before .before .before .before .before .before .before .before .before .before .before .before .before .before) .held)
+  back-node-add-back-inside-2 c = omega (arith, here (c .before .before .before .before .before .before .before .before .before .before .before .before .before .before) .held)
 
   back-node-back-inside-requires-2 : back-node-lts.Need-back-inside-requires-2 (back-node-calls t) (back-node-at t) back-node.Post
   back-node-back-inside-requires-2 c κs =
-      let v = c .before .before .before .before .before .before .before .before .before .before .before .before .view-at .ensures in
-      let k = rw v at (c .before .before .before .before .before .before .before .before .before .before .if1 .left) in
-      rw v (omega (arith, c .before .before .before .before .before .before .before .before .before .before .before .before .before .before .before .before .pre .0, c .before .before .before .before .before .before .before .before .before .before .before .before .before .before .before .before .pre .1 .0), (timely-inside (c .before .before .before .before .before .before .before .before .before .before .before .before .before .before .before .before .pre .1 .1) (c .before .before .before .before .before .before .before .before .before .before .before .before .before .before .before .before .pre .1 .0) k, held (c .before .before .before .before .before .before) .only, omega (arith, c .before .before .before .before .before .before .before .before .before .before .before .before .before .before .before .before .pre .1 .3, c .before .before .before .before .before .before .before .before .before .before .before .before .before .before .before .before .pre .1 .0)))
+      let v = c .before .before .before .before .before .before .before .before .before .before .before .view-at .ensures in
+      let q = c .before .before .before .before .before .before .before .before .before .before .before .before .before .before .before .pre in
+      rw v (omega (arith, q .0, q .1 .0), (timely-inside (q .1 .1) (q .1 .0) (rw v at (c .before .before .before .before .before .before .before .before .before .if1 .left)), q .1 .2, trim (c .before .before .before .before .before), omega (arith, q .1 .4, q .1 .0)))
 
   back-node-same-length-3 : back-node-lts.Need-same-length-3 (back-node-calls t) (back-node-at t) back-node.Post
   back-node-same-length-3 c = search needs
 
   back-node-returns-4 : back-node-lts.Need-returns-4 (back-node-calls t) (back-node-at t) back-node.Post
   back-node-returns-4 c =
-      let u = held (c .before .before .before .before .before .before .before .before .before) in
-      back-bare (c .before .before .before .before .before .before .before .before .before .before .before .before .before .before .before .before .before .before .before .args .i) (setOf (c .before .before .before .before .before .before .before .before .before .before .before .before .before .before .before .before .before .before .before .args .around .words)) (setOf (c .before .before .before .before .before .before .before .before .before .times-to .result .stamp .words)) (low (c .before .before .before .before .before .before .before .before .before .before .before .before .before .before .before .before .before .before .before)) (c .before .before .before .before .before .before .before .before .before .before .before .before .before .before .before .before .before .before .before .pre .1 .2) (u .only) (c .before .before .before .before .before .before .before .before .before .before .before .before .before .before .before .before .before .before .before .pre .1 .0) (times (c .before .before .before .before .before .before .before .before .before .before .before)) (u .listed-is)
-      (sym (c .before .before .before .before .before .before .before .is-empty .ensures) ∙ c .before .before .before .before .before .before .if3 .left) (sym (c .before .before .before .before .before .same .ensures) ∙ c .before .before .before .before .if4 .taken) (rw (c .before .before .before .before .before .before .before .before .before .before .before .before .before .before .before .view-at .ensures) at (c .before .before .back-inside2 .ensures))
+      let v = c .before .before .before .before .before .before .before .before .before .before .before .before .before .before .view-at .ensures in
+      node-bare (c .before .before .before .before .before .before .before .before .before .before .before .before .before .before .before .before .before .before .args .tape .now) (c .before .before .before .before .before .before .before .before .before .before .before .before .before .before .before .before .before .before .args .p) (low (c .before .before .before .before .before .before .before .before .before .before .before .before .before .before .before .before .before .before)) (c .before .before .before .before .before .before .before .before .before .before .before .before .before .before .before .before .before .before .pre .1 .2) (c .before .before .before .before .before .before .before .before .before .before .before .before .before .before .before .before .before .before .pre .1 .3) (trim (c .before .before .before .before .before .before .before .before)) (c .before .before .before .before .before .before .before .before .before .before .before .before .before .before .before .before .before .before .pre .1 .0) (times (c .before .before .before .before .before .before .before .before .before .before)) (same-times (c .before .before .before .before .before .before .before .before)) (c .before .before .before .before .before .before .if3 .left)
+      (sym (rw v at (c .before .before .before .before .before .same-cut .ensures)) ∙ c .before .before .before .before .if4 .taken) (rw v at (c .before .before .back-inside2 .ensures))
 
   back-node-put-cut-requires : back-node-lts.Need-put-cut-requires (back-node-calls t) (back-node-at t) back-node.Post
-  back-node-put-cut-requires c κs =
-      let h = here (c .before .before .before .before .before .before .before .before .before .before .before .before .before .before .before .before) .within in
-      rw (c .before .before .before .before .before .before .before .before .before .before .before .before .view-at .ensures) (omega (arith, h), omega (arith, h), omega (arith, h), omega (arith, c .before .before .before .before .before .before .before .before .before .before .before .before .before .before .before .before .pre .1 .3), held (c .before .before .before .before .before .before) .text-is)
+  back-node-put-cut-requires c κs = rw (c .before .before .before .before .before .before .before .before .before .before .before .view-at .ensures) (c .before .before .before .before .before .before .before .before .before .before .before .before .before .before .before .pre .1 .2, low (c .before .before .before .before .before .before .before .before .before .before .before .before .before .before .before), trim (c .before .before .before .before .before), omega (arith, c .before .before .before .before .before .before .before .before .before .before .before .before .before .before .before .pre .1 .4))
 
   back-node-add-back-inside-3 : back-node-lts.Need-add-back-inside-3 (back-node-calls t) (back-node-at t) back-node.Post
-  back-node-add-back-inside-3 c = omega (arith, here (c .before .before .before .before .before .before .before .before .before .before .before .before .before .before .before .before .before .before .before) .held, c .before .before .before .before .before .before .before .before .before .before .before .before .before .before .before .before .before .before .before .good, c .before .before .before .before .before .before .before .before .before .before .before .before .before .before .before .before .before .before .before .fits)
+  back-node-add-back-inside-3 c = omega (arith, here (c .before .before .before .before .before .before .before .before .before .before .before .before .before .before .before .before .before .before) .held, (c .before .before .before .before .before .before .before .before .before .before .before .before .before .before .before .before .before .before .good), (c .before .before .before .before .before .before .before .before .before .before .before .before .before .before .before .before .before .before .fits))
 
   back-node-back-inside-requires-3 : back-node-lts.Need-back-inside-requires-3 (back-node-calls t) (back-node-at t) back-node.Post
   back-node-back-inside-requires-3 c κs =
-      let v = c .before .before .before .before .before .before .before .before .before .before .before .before .before .before .before .before .view-at .ensures in
-      let k = rw v at (c .before .before .before .before .before .before .before .before .before .before .before .before .before .before .if1 .left) in
-      let o = times-room (setOf (c .before .before .before .before .before .before .before .before .before .before .times-to .result .stamp .words)) (c .before .before .before .put-cut .ensures) in
-      rw v (omega (arith, c .before .before .before .before .before .before .before .before .before .before .before .before .before .before .before .before .before .before .before .before .pre .0, c .before .before .before .before .before .before .before .before .before .before .before .before .before .before .before .before .before .before .before .before .pre .1 .0), (timely-inside (c .before .before .before .before .before .before .before .before .before .before .before .before .before .before .before .before .before .before .before .before .pre .1 .1) (c .before .before .before .before .before .before .before .before .before .before .before .before .before .before .before .before .before .before .before .before .pre .1 .0) k, held (c .before .before .before .before .before .before .before .before .before .before) .only, omega (arith, c .before .before .before .before .before .before .before .before .before .before .before .before .before .before .before .before .before .before .before .before .pre .1 .3, c .before .before .before .before .before .before .before .before .before .before .before .before .before .before .before .before .before .before .before .before .pre .1 .0)))
+      let v = c .before .before .before .before .before .before .before .before .before .before .before .before .before .before .before .view-at .ensures in
+      let q = c .before .before .before .before .before .before .before .before .before .before .before .before .before .before .before .before .before .before .before .pre in
+      let o = trimmed-room (trim (c .before .before .before .before .before .before .before .before .before)) (rw v at (c .before .before .before .put-cut .ensures)) in
+      rw v (omega (arith, q .0, q .1 .0), (timely-inside (q .1 .1) (q .1 .0) (rw v at (c .before .before .before .before .before .before .before .before .before .before .before .before .before .if1 .left)), q .1 .2, trim (c .before .before .before .before .before .before .before .before .before), omega (arith, q .1 .4, q .1 .0, o)))
 
   back-node-put-close-requires-2 : back-node-lts.Need-put-close-requires-2 (back-node-calls t) (back-node-at t) back-node.Post
   back-node-put-close-requires-2 c κs =
-      let v = c .before .before .before .before .before .before .before .before .before .before .before .before .before .before .before .before .before .before .before .before .view-at .ensures in
-      let x = timely-inside (c .before .before .before .before .before .before .before .before .before .before .before .before .before .before .before .before .before .before .before .before .before .before .before .before .pre .1 .1) (c .before .before .before .before .before .before .before .before .before .before .before .before .before .before .before .before .before .before .before .before .before .before .before .before .pre .1 .0) (rw v at (c .before .before .before .before .before .before .before .before .before .before .before .before .before .before .before .before .before .before .if1 .left)) in
+      let v = c .before .before .before .before .before .before .before .before .before .before .before .before .before .before .before .before .before .before .before .view-at .ensures in
+      let q = c .before .before .before .before .before .before .before .before .before .before .before .before .before .before .before .before .before .before .before .before .before .before .before .pre in
+      let x = timely-inside (q .1 .1) (q .1 .0) (rw v at (c .before .before .before .before .before .before .before .before .before .before .before .before .before .before .before .before .before .if1 .left)) in
       let k = rw v at (c .before .before .before .back-inside3 .ensures) in
-      let o = times-room (setOf (c .before .before .before .before .before .before .before .before .before .before .before .before .before .before .times-to .result .stamp .words)) (c .before .before .before .before .before .before .before .put-cut .ensures) in
-      rw v (omega (arith, here (c .before .before .before .before .before .before .before .before .before .before .before .before .before .before .before .before .before .before .before .before .before .before .before .before) .within, k (x .forest) (x .tape) .place, back-length (c .before .before .before .before .before .before .before .before .before .before .before .before .before .before .before .before .before .before .before .before .before .before .before .before .args .i) (listed (c .before .before .before .before .before .before .before .before .before .before .before .before .before .before .before .before .before .before .before .before .before .before .before .before .args .i) (setOf (c .before .before .before .before .before .before .before .before .before .before .before .before .before .before .times-to .result .stamp .words))) x, c .before .before .before .before .before .before .before .before .before .before .before .before .before .before .before .before .before .before .before .before .before .before .before .before .pre .1 .3, c .before .before .before .before .before .before .before .before .before .before .before .before .before .before .before .before .before .before .before .before .before .before .before .before .pre .1 .0))
+      let o = trimmed-room (trim (c .before .before .before .before .before .before .before .before .before .before .before .before .before)) (rw v at (c .before .before .before .before .before .before .before .put-cut .ensures)) in
+      rw v (omega (arith, here (c .before .before .before .before .before .before .before .before .before .before .before .before .before .before .before .before .before .before .before .before .before .before .before) .within, k (x .forest) (x .tape) .place, back-length (c .before .before .before .before .before .before .before .before .before .before .before .before .before .before .before .before .before .before .before .before .before .before .before .args .i) (inner (c .before .before .before .before .before .before .before .before .before .before .before .before .before)) x, q .1 .4, q .1 .0, o))
 
   back-node-same-length-4 : back-node-lts.Need-same-length-4 (back-node-calls t) (back-node-at t) back-node.Post
   back-node-same-length-4 c = search needs
 
   back-node-returns-5 : back-node-lts.Need-returns-5 (back-node-calls t) (back-node-at t) back-node.Post
   back-node-returns-5 c =
-      let u = held (c .before .before .before .before .before .before .before .before .before .before .before .before .before .before .before .before .before) in
-      let v = c .before .before .before .before .before .before .before .before .before .before .before .before .before .before .before .before .before .before .before .before .before .before .before .view-at .ensures in
-      back-wrapped (c .before .before .before .before .before .before .before .before .before .before .before .before .before .before .before .before .before .before .before .before .before .before .before .before .before .before .before .args .i) (setOf (c .before .before .before .before .before .before .before .before .before .before .before .before .before .before .before .before .before .before .before .before .before .before .before .before .before .before .before .args .around .words)) (setOf (c .before .before .before .before .before .before .before .before .before .before .before .before .before .before .before .before .before .times-to .result .stamp .words)) (low (c .before .before .before .before .before .before .before .before .before .before .before .before .before .before .before .before .before .before .before .before .before .before .before .before .before .before .before)) (c .before .before .before .before .before .before .before .before .before .before .before .before .before .before .before .before .before .before .before .before .before .before .before .before .before .before .before .pre .1 .2) (u .only) (c .before .before .before .before .before .before .before .before .before .before .before .before .before .before .before .before .before .before .before .before .before .before .before .before .before .before .before .pre .1 .0) (times (c .before .before .before .before .before .before .before .before .before .before .before .before .before .before .before .before .before .before .before)) (u .listed-is)
-      (sym (c .before .before .before .before .before .before .before .before .before .before .before .before .before .before .before .is-empty .ensures) ∙ c .before .before .before .before .before .before .before .before .before .before .before .before .before .before .if3 .left) (sym (c .before .before .before .before .before .before .before .before .before .before .before .before .before .same .ensures) ∙ c .before .before .before .before .before .before .before .before .before .before .before .before .if4 .left) (c .before .before .before .before .before .before .before .before .before .before .put-cut .ensures) (rw v at (c .before .before .before .before .before .before .back-inside3 .ensures)) (rw v at (c .before .before .put-close2 .ensures))
+      let v = c .before .before .before .before .before .before .before .before .before .before .before .before .before .before .before .before .before .before .before .before .before .before .view-at .ensures in
+      node-wrapped (c .before .before .before .before .before .before .before .before .before .before .before .before .before .before .before .before .before .before .before .before .before .before .before .before .before .before .args .tape .now) (c .before .before .before .before .before .before .before .before .before .before .before .before .before .before .before .before .before .before .before .before .before .before .before .before .before .before .args .p) (low (c .before .before .before .before .before .before .before .before .before .before .before .before .before .before .before .before .before .before .before .before .before .before .before .before .before .before)) (c .before .before .before .before .before .before .before .before .before .before .before .before .before .before .before .before .before .before .before .before .before .before .before .before .before .before .pre .1 .2) (c .before .before .before .before .before .before .before .before .before .before .before .before .before .before .before .before .before .before .before .before .before .before .before .before .before .before .pre .1 .3) (trim (c .before .before .before .before .before .before .before .before .before .before .before .before .before .before .before .before)) (c .before .before .before .before .before .before .before .before .before .before .before .before .before .before .before .before .before .before .before .before .before .before .before .before .before .before .pre .1 .0) (times (c .before .before .before .before .before .before .before .before .before .before .before .before .before .before .before .before .before .before)) (same-times (c .before .before .before .before .before .before .before .before .before .before .before .before .before .before .before .before)) (c .before .before .before .before .before .before .before .before .before .before .before .before .before .before .if3 .left)
+      (sym (rw v at (c .before .before .before .before .before .before .before .before .before .before .before .before .before .same-cut .ensures)) ∙ c .before .before .before .before .before .before .before .before .before .before .before .before .if4 .left) (rw v at (c .before .before .before .before .before .before .before .before .before .before .put-cut .ensures)) (rw v at (c .before .before .before .before .before .before .back-inside3 .ensures)) (rw v at (c .before .before .put-close2 .ensures))
 
 module _ (t : ℕ) where
   turn : (c : write-back-lts.In-loop (write-back-calls t) (write-back-at t) write-back.Post write-back-Inv-loop write-back-μ-loop) → Front (c .before .before .before .before .before .args .src .now) (c .before .before .before .before .before .args .tape .now) (c .before .loop .p) (c .before .before .before .before .before .args .hi)
   turn c = front (c .before .loop .inv .1 .tape) (c .loop-test .taken)
+
+  abbrev held : (c : write-back-lts.Start (write-back-calls t) (write-back-at t) write-back.Post write-back-Inv-loop write-back-μ-loop) → Times
+  held c = timesIn (c .args .i) (cutText (c .args .src .now) (c .args .a) (c .args .around .to) (c .args .around .tail) (c .args .i))
 
   write-back-loop-holds : write-back-lts.Need-loop-holds (write-back-calls t) (write-back-at t) write-back.Post write-back-Inv-loop write-back-μ-loop
   write-back-loop-holds c = (omega arith, c .before .before .before .pre .1 .0, omega arith, λ f h. going-none h)
@@ -257,8 +269,9 @@ module _ (t : ℕ) where
   write-back-back-node-requires : write-back-lts.Need-back-node-requires (write-back-calls t) (write-back-at t) write-back.Post write-back-Inv-loop write-back-μ-loop
   write-back-back-node-requires c κs =
       let s = turn (c .before) in
-      let i = c .before .before .loop .inv in
-      (omega (arith, s .forward, s .inside, i .0, c .before .before .before .before .before .before .pre .0), (s .forward, timely-first (i .1) (c .before .loop-test .taken), c .before .before .before .before .before .before .pre .1 .1, omega (arith, s .forward, s .inside, i .2, c .before .before .before .before .before .before .pre .1 .2)))
+      let j = c .before .before .loop .inv in
+      let q = c .before .before .before .before .before .before .pre in
+      (omega (arith, s .forward, s .inside, j .0, q .0), (s .forward, timely-first (j .1) (c .before .loop-test .taken), q .1 .1, q .1 .2, omega (arith, s .forward, s .inside, j .2, q .1 .3)))
 
   write-back-view-at-requires : write-back-lts.Need-view-at-requires (write-back-calls t) (write-back-at t) write-back.Post write-back-Inv-loop write-back-μ-loop
   write-back-view-at-requires c κs = turn (c .before .before .before .before) .held
@@ -269,21 +282,20 @@ module _ (t : ℕ) where
   write-back-loop-again : write-back-lts.Need-loop-again (write-back-calls t) (write-back-at t) write-back.Post write-back-Inv-loop write-back-μ-loop
   write-back-loop-again c =
       let s = turn (c .before .before .before .before .before) in
-      let i = c .before .before .before .before .before .before .loop .inv in
-      let x = timely-first (i .1) (c .before .before .before .before .before .loop-test .taken) in
+      let j = c .before .before .before .before .before .before .loop .inv in
+      let x = timely-first (j .1) (c .before .before .before .before .before .loop-test .taken) in
       let w = c .before .before .before .back-node .ensures in
-      let z = listed (c .before .before .before .before .before .before .before .before .before .before .args .i) (setOf (c .before .before .before .before .before .before .before .before .before .before .args .around .words)) in
-      rw (c .view-at .ensures) (omega (arith, s .forward, i .0), timely-rest (i .1) (c .before .before .before .before .before .loop-test .taken), omega (arith, s .forward, s .inside, i .2, w (x .forest) (x .tape) .place, back-length (c .before .before .before .before .before .before .before .before .before .before .args .i) z x), λ f h. going-more (back-pieces (c .before .before .before .before .before .before .before .before .before .before .args .i) z) (i .3 f h) (c .before .before .before .before .before .loop-test .taken) w)
+      rw (c .view-at .ensures) (omega (arith, s .forward, j .0), timely-rest (j .1) (c .before .before .before .before .before .loop-test .taken), omega (arith, s .forward, s .inside, j .2, w (x .forest) (x .tape) .place, back-length (c .before .before .before .before .before .before .before .before .before .before .args .i) (held (c .before .before .before .before .before .before .before .before .before .before)) x), λ f h. going-more (back-pieces (c .before .before .before .before .before .before .before .before .before .before .args .i) (held (c .before .before .before .before .before .before .before .before .before .before))) (j .3 f h) (c .before .before .before .before .before .loop-test .taken) w)
 
   write-back-same-length : write-back-lts.Need-same-length (write-back-calls t) (write-back-at t) write-back.Post write-back-Inv-loop write-back-μ-loop
   write-back-same-length c = going-length (c .before .loop .inv .3 (c .before .before .before .before .before .pre .1 .0 .forest) (c .before .before .before .before .before .pre .1 .0 .tape))
 
   write-back-returns : write-back-lts.Need-returns (write-back-calls t) (write-back-at t) write-back.Post write-back-Inv-loop write-back-μ-loop
-  write-back-returns c f h = going-done (back-pieces (c .before .before .before .before .before .args .i) (listed (c .before .before .before .before .before .args .i) (setOf (c .before .before .before .before .before .args .around .words)))) (c .before .loop .inv .3 f h) (c .loop-test .left)
+  write-back-returns c f h = going-done (back-pieces (c .before .before .before .before .before .args .i) (held (c .before .before .before .before .before))) (c .before .loop .inv .3 f h) (c .loop-test .left)
 
 pub +back-inside+back-node+write-back-spec : {M : Type 1} → statement M
 +back-inside+back-node+write-back-spec =
     close μ-back-inside μ-back-node μ-write-back
     (λ t. back-inside-lts.spec (back-inside-calls t) (back-inside-at t) back-inside.Post (back-inside-is-run-requires t) (back-inside-view-at-requires t) (back-inside-put-text-requires t) (back-inside-same-length t) (back-inside-returns t) (back-inside-write-back-requires t) (back-inside-same-length-2 t) (back-inside-returns-2 t))
-    (λ t. back-node-lts.spec (back-node-calls t) (back-node-at t) back-node.Post (back-node-view-at-requires t) (back-node-put-text-requires t) (back-node-same-length t) (back-node-returns t) (back-node-put-open-requires t) (back-node-add-back-inside t) (back-node-back-inside-requires t) (back-node-put-close-requires t) (back-node-same-length-2 t) (back-node-returns-2 t) (back-node-sub-times-to t) (back-node-part-times-to-start t) (back-node-part-times-to-end t) (back-node-times-to-requires t) (back-node-is-empty-requires t) (back-node-returns-3 t) (back-node-same-requires t) (back-node-add-back-inside-2 t) (back-node-back-inside-requires-2 t) (back-node-same-length-3 t) (back-node-returns-4 t) (back-node-put-cut-requires t) (back-node-add-back-inside-3 t) (back-node-back-inside-requires-3 t) (back-node-put-close-requires-2 t) (back-node-same-length-4 t) (back-node-returns-5 t))
+    (λ t. back-node-lts.spec (back-node-calls t) (back-node-at t) back-node.Post (back-node-view-at-requires t) (back-node-put-text-requires t) (back-node-same-length t) (back-node-returns t) (back-node-put-open-requires t) (back-node-add-back-inside t) (back-node-back-inside-requires t) (back-node-put-close-requires t) (back-node-same-length-2 t) (back-node-returns-2 t) (back-node-sub-cut-at t) (back-node-part-cut-at-start t) (back-node-part-cut-at-end t) (back-node-cut-at-requires t) (back-node-add-if3 t) (back-node-returns-3 t) (back-node-same-cut-requires t) (back-node-add-back-inside-2 t) (back-node-back-inside-requires-2 t) (back-node-same-length-3 t) (back-node-returns-4 t) (back-node-put-cut-requires t) (back-node-add-back-inside-3 t) (back-node-back-inside-requires-3 t) (back-node-put-close-requires-2 t) (back-node-same-length-4 t) (back-node-returns-5 t))
     (λ t. write-back-lts.spec (write-back-calls t) (write-back-at t) write-back.Post write-back-Inv-loop write-back-μ-loop (write-back-loop-holds t) (write-back-back-node-requires t) (write-back-view-at-requires t) (write-back-loop-less t) (write-back-loop-again t) (write-back-same-length t) (write-back-returns t))

@@ -1,27 +1,51 @@
--- `put_cut` meets its contract: where the set is whole, its text is the one that is copied.
+-- `walks::back::put_cut` meets its contract: four pieces one after the other.
+use native.Mathlib.Omega.{arith}
+use Rattle.xml.specs.Bytes.{bytes}
+use Rattle.xml.specs.OverLaws.{wrote-then}
+use Rattle.xml.specs.TapeLaws.{opening}
+use Rattle.walks.specs.Trimmed.{trimmed-short, part-room}
 use borrow.Author.Needs.{needs}
 use Rattle.walks.proofs.back.put_cut.Statement.{statement}
 use Rattle.walks.proofs.back.put_cut.Tie as tie
 
-put-open-requires : tie.Need-put-open-requires
-put-open-requires c κs = search needs
+slice-aggregate-put-word : tie.Need-slice-aggregate-put-word
+slice-aggregate-put-word c = search needs
+
+put-word-requires : tie.Need-put-word-requires
+put-word-requires c κs = search needs
+
+add-put-part : tie.Need-add-put-part
+add-put-part c = search needs
+
+put-part-requires : tie.Need-put-part-requires
+put-part-requires c κs = omega (arith, c .before .before .before .before .before .before .before .before .before .pre .2 .inside, trimmed-short (c .before .before .before .before .before .before .before .before .before .pre .2), c .before .before .before .before .put-word .ensures .place)
+
+put-tail-requires : tie.Need-put-tail-requires
+put-tail-requires c κs = omega (arith, c .before .before .before .before .before .before .before .before .before .before .before .before .before .pre .2 .known, part-room (c .before .before .before .before .before .before .before .before .before .before .before .before .before .pre .2) (c .before .before .before .put-part .ensures), c .before .before .before .before .before .before .before .before .put-word .ensures .place, trimmed-short (c .before .before .before .before .before .before .before .before .before .before .before .before .before .pre .2))
+
+slice-aggregate-put-word-2 : tie.Need-slice-aggregate-put-word-2
+slice-aggregate-put-word-2 c = search needs
+
+put-word-requires-2 : tie.Need-put-word-requires-2
+put-word-requires-2 c κs = omega (arith, part-room (c .before .before .before .before .before .before .before .before .before .before .before .before .before .before .before .before .before .before .pre .2) (c .before .before .before .before .before .before .before .before .put-part .ensures), c .before .before .before .before .put-tail .ensures .place, trimmed-short (c .before .before .before .before .before .before .before .before .before .before .before .before .before .before .before .before .before .before .pre .2), c .before .before .before .before .before .before .before .before .before .before .before .before .before .put-word .ensures .place)
 
 same-length : tie.Need-same-length
 same-length c = search needs
 
 returns : tie.Need-returns
-returns c = rw (c .before .before .before .before .before .before .before .pre .4 (c .before .before .before .before .if1 .taken)) (c .before .before .put-open .ensures)
-
-put-times-requires : tie.Need-put-times-requires
-put-times-requires c κs = search needs
-
-same-length-2 : tie.Need-same-length-2
-same-length-2 c = search needs
-
-returns-2 : tie.Need-returns-2
-returns-2 c = search needs
+unfolding bytes opening
+returns c = wrote-then (wrote-then (c .before .before .before .before .before .before .before .before .before .before .before .before .before .before .before .before .put-word .ensures) (wrote-then (c .before .before .before .before .before .before .before .before .before .before .before .put-part .ensures) (c .before .before .before .before .before .before .before .put-tail .ensures))) (c .before .before .put-word2 .ensures)
 
 pub put-cut-spec : {M : Type 1} → statement M
 put-cut-spec =
     tie.close
-    (tie.spec put-open-requires same-length returns put-times-requires same-length-2 returns-2)
+    (tie.spec
+    slice-aggregate-put-word
+    put-word-requires
+    add-put-part
+    put-part-requires
+    put-tail-requires
+    slice-aggregate-put-word-2
+    put-word-requires-2
+    same-length
+    returns)
