@@ -80,9 +80,12 @@ module _ {src cells : List ℕ} {p hi : ℕ} {vsrc vcells : List ℕ} {q vhi n :
   abbrev pub orderAt : p < hi → ℕ
   orderAt l = orderOf (label K w (nextOf l .name) (nextOf l .kids)) (firstLabel K w (x .other))
 
-  pub order-at : (l : p < hi) {r : ℕ} → ((o : Option Bytes) (m : Bytes) (k v : Forest) → At src cells p o m k → Tape vsrc vcells q vhi v → VersionIn K w v → r ≡ orderOf (label K w m k) (firstLabel K w v))
+  pub order-at : (l : p < hi) {r own : ℕ} → ((o : Option Bytes) (m : Bytes) (k : Forest) → At src cells p o m k → own ≡ placeOf K (w ▸ m))
+      → ((o : Option Bytes) (m : Bytes) (k v : Forest) → placeOf K (w ▸ m) ≡ own → At src cells p o m k → Tape vsrc vcells q vhi v → VersionIn K w v → r ≡ orderOf (label K w m k) (firstLabel K w v))
       → orderAt l ≡ r
-  order-at l f = sym (f (nextOf l .own) (nextOf l .name) (nextOf l .kids) (x .other) (nextOf l .at) (x .vtape) (x .version))
+  order-at l b f =
+      let s = nextOf l in
+      sym (f (s .own) (s .name) (s .kids) (x .other) (sym (b (s .own) (s .name) (s .kids) (s .at))) (s .at) (x .vtape) (x .version))
 
   pub there : (l : p < hi) → (orderAt l ≡ 0 → ⊥) → q < vhi
   there l h = go (decLt q vhi)
@@ -147,7 +150,8 @@ module _ {src cells : List ℕ} {p hi : ℕ} {vsrc vcells : List ℕ} {q vhi n :
       }
 
   -- the sibling that both have
-  pub both-of : {text : Bytes} {table : List ℕ} {n-paths place a e : ℕ} (l : p < hi) (u : q < vhi) → orderAt l ≡ 1 → Table text table n-paths K → placeOf K w ≡ place → Says n src a e t
+  pub both-of : {text : Bytes} {table : List ℕ} {n-paths place a e : ℕ} (l : p < hi) (u : q < vhi) → orderAt l ≡ 1 → Table text table n-paths K
+      → ((o : Option Bytes) (m : Bytes) (k : Forest) → At src cells p o m k → place ≡ placeOf K (w ▸ m)) → Says n src a e t
       → Both text table n-paths place src cells p vsrc vcells q n a e K w t (nextOf l .own) (nextOf l .name) (nextOf l .kids) (otherOf u .kids)
   unfolding untimed
   both-of l u e a b c =
@@ -156,7 +160,7 @@ module _ {src cells : List ℕ} {p hi : ℕ} {vsrc vcells : List ℕ} {q vhi n :
       let z : o .name ≡ s .name = sym (alike K w (s .name) (s .kids) (o .name) (o .kids) (sym (order-some (label K w (s .name) (s .kids)) o) ∙ e)) in
       record {
         tabled = a;
-        place-is = b;
+        place-is = sym (b (s .own) (s .name) (s .kids) (s .at));
         at = s .at;
         own-set = s .set;
         siblings = s .siblings;
@@ -217,11 +221,11 @@ room-more to {p = p} {p′ = p′} {hi = hi} {q = q} {q′ = q′} {vhi = vhi} h
     room-step to (hi - p′) (p′ - p) (vhi - q′) (q′ - q) (hi - p) (vhi - q) (omega (arith, a, b)) (omega (arith, c, d)) h g
 
 -- what a sibling that both have holds
-pub inner-held : {text : Bytes} {table : List ℕ} {n-paths place own : ℕ} {src cells : List ℕ} {p : ℕ} {vsrc vcells : List ℕ} {q n a e b d : ℕ} {K : KeyList} {w : Path} {t : Times}
-    {o : Option Bytes} {m : Bytes} {k g : Forest} → Both text table n-paths place src cells p vsrc vcells q n a e K w t o m k g → own ≡ placeOf K (w ▸ m) → Says n src b d (setIn n t o)
-    → Held text table n-paths own src cells (placeIn o p + 1) (nextAt cells (placeIn o p)) vsrc vcells (q + 1) (nextAt vcells q) n b d K (w ▸ m) (setIn n t o) k g
-inner-held b e s =
-    record { tabled = b .tabled; place-is = sym e; tape = b .at .inner; vtape = b .vinner; siblings = b .siblings; front = b .front; version = b .version; plain = b .plain; set = s }
+pub inner-held : {text : Bytes} {table : List ℕ} {n-paths place : ℕ} {src cells : List ℕ} {p : ℕ} {vsrc vcells : List ℕ} {q n a e b d : ℕ} {K : KeyList} {w : Path} {t : Times}
+    {o : Option Bytes} {m : Bytes} {k g : Forest} → Both text table n-paths place src cells p vsrc vcells q n a e K w t o m k g → Says n src b d (setIn n t o)
+    → Held text table n-paths place src cells (placeIn o p + 1) (nextAt cells (placeIn o p)) vsrc vcells (q + 1) (nextAt vcells q) n b d K (w ▸ m) (setIn n t o) k g
+inner-held b s =
+    record { tabled = b .tabled; place-is = b .place-is; tape = b .at .inner; vtape = b .vinner; siblings = b .siblings; front = b .front; version = b .version; plain = b .plain; set = s }
 
 -- an element's tags are short
 pub opening-short : {src cells : List ℕ} {p kind : ℕ} {m : Bytes} → Node src cells p kind m → length (opening true m) ≤ 32769

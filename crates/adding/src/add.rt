@@ -4,11 +4,11 @@ use crate::content::write_contents;
 use crate::sibling::close_set;
 use crate::sibling::open_set;
 use crate::sibling::order_of;
+use crate::sibling::own_place;
 use crate::sibling::set_of;
 use crate::sibling::write_new;
 use crate::sibling::write_old;
 use keys::places::Part;
-use keys::places::child;
 use keys::places::is_above;
 use timestamp::Timestamp;
 use walks::history::element_at;
@@ -33,12 +33,12 @@ ghost use Rattle.adding.specs.Growth.{Grew};
 ghost use Rattle.versions.specs.AddWalk.{Held, SomeHeld, Both, SomeBoth};
 ghost use Rattle.adding.specs.AddWhole.{Adding, SomeAdding};
 
-// The sibling p, in an element at the place, which the version has as its element q.
+// The sibling p, whose element is at the place `own`, and which the version has as its element q.
 fn write_both(
     text: &[u8],
     table: &[u32],
     paths: usize,
-    place: usize,
+    own: usize,
     src: &[u8],
     tape: &[u32],
     p: usize,
@@ -50,10 +50,10 @@ fn write_both(
     out: &mut [u8],
     at: usize,
 ) -> Added
-    requires { ⌜ SomeBoth (now text) (now table) paths place (now src) (now tape) p (now vsrc) (now vtape) q n (around .start) (around .end) × (n ≤ 998)
+    requires { ⌜ SomeBoth (now text) (now table) paths own (now src) (now tape) p (now vsrc) (now vtape) q n (around .start) (around .end) × (n ≤ 998)
         × (nextAt (now tape) p ≤ 2 ^ 32) × (nextAt (now vtape) q ≤ 2 ^ 32) × (at + 262144 * (nextAt (now tape) p - p + (nextAt (now vtape) q - q)) < 2 ^ 58) ⌝ }
     ensures { λ r. ⌜ ((K : KeyList) (w : Path) (t : Times) (o : Option Bytes) (m : Bytes) (k g : Forest)
-        → Both (now (text .entry)) (now (table .entry)) paths place (now (src .entry)) (now (tape .entry)) p (now (vsrc .entry)) (now (vtape .entry)) q n (around .start) (around .end) K w t o m k g
+        → Both (now (text .entry)) (now (table .entry)) paths own (now (src .entry)) (now (tape .entry)) p (now (vsrc .entry)) (now (vtape .entry)) q n (around .start) (around .end) K w t o m k g
         → Grew (now (out .entry)) at (bothPart n o m (inside K n (w ▸ m) (setIn n t o) k g)) (sibling o m k) (nextAt (now (vtape .entry)) q - q)
         (262144 * (nextAt (now (tape .entry)) p - p + (nextAt (now (vtape .entry)) q - q))) r (now (out .exit))) ⌝ }
 {
@@ -61,7 +61,6 @@ fn write_both(
     let set = set_of(src, tape, p, around);
     let v = view_at(tape, e);
     let w = view_at(vtape, q);
-    let own = child(text, table, paths, place, src, v.start, v.end);
     let tag = open_set(src, tape, p, set, n, out, at);
     let inside = put_open(true, src, v.start, v.end, out, tag);
     let x = write_added(
@@ -123,7 +122,8 @@ pub fn write_added(
     let mut to = at;
     let mut fresh = 0;
     while p < hi {
-        let order = order_of(text, table, paths, place, src, tape, p, vsrc, vtape, q, vhi);
+        let own = own_place(text, table, paths, place, src, tape, p);
+        let order = order_of(text, table, paths, own, src, tape, p, vsrc, vtape, q, vhi);
         if order == 2 {
             let w = view_at(vtape, q);
             to = put_newest(n, vsrc, vtape, q, w.next, out, to);
@@ -138,7 +138,7 @@ pub fn write_added(
                 text,
                 table,
                 paths,
-                place,
+                own,
                 src,
                 tape,
                 p,

@@ -1,8 +1,9 @@
 // A sibling of the archive where a version is added: an element, bare or in a `T` of its own.
 use crate::timed::put_grown;
 use crate::timed::put_within;
-use keys::label::compare_labels;
+use keys::label::compare_labels_at;
 use keys::places::Part;
+use keys::places::child;
 use walks::history::element_at;
 use walks::timed::put_newest;
 use xml::tape::view_at;
@@ -19,13 +20,16 @@ ghost use Rattle.xml.specs.Over.{Wrote};
 ghost use Rattle.xml.specs.Forest.{Forest, write};
 ghost use Rattle.xml.specs.Tape.{headAt, endIn, nextAt, Tape, Valid};
 ghost use Rattle.keys.specs.KeyList.{Path, KeyList};
-ghost use Rattle.keys.specs.Version.{label};
+ghost use Rattle.keys.specs.Version.{_▸_, label};
+ghost use Rattle.keys.specs.Table.{placeOf, Table};
 ghost use Rattle.keys.specs.Placed.{OfPlace};
+ghost use Rattle.keys.specs.Labelled.{Labelled};
 ghost use Rattle.timestamp.specs.Times.{Times};
 ghost use Rattle.timestamp.specs.Place.{IsSetTo};
 ghost use Rattle.versions.specs.Walk.{firstLabel, addNew};
 ghost use Rattle.versions.specs.AddParts.{Says, setIn, oldPart, opened, closed, orderOf, SetOf, VersionIn, At};
 ghost use Rattle.versions.specs.AddWalk.{SomeNext};
+ghost use Rattle.versions.specs.HistoryTape.{elementAt};
 
 // The text of its set, in an element that stands in the versions `around`.
 pub fn set_of(src: &[u8], tape: &[u32], p: usize, around: Part) -> Part
@@ -122,13 +126,32 @@ pub fn write_new(
     to
 }
 
-// How the label of the sibling at p compares with that of the version's next element, q: 0 before, also where none is left, 1 the same,
-// 2 after.
-pub fn order_of(
+// The place of its element, in an element at a place.
+pub fn own_place(
     text: &[u8],
     table: &[u32],
     paths: usize,
     place: usize,
+    src: &[u8],
+    tape: &[u32],
+    p: usize,
+) -> usize
+    requires { ⌜ Labelled (now text) (now table) paths place (now src) (now tape) (elementAt (now tape) p) × (2 * p + 1 < length (now tape)) ⌝ }
+    ensures { λ r. ⌜ OfPlace (now (text .entry)) (now (table .entry)) paths place (λ K w. (o : Option Bytes) (m : Bytes) (k : Forest)
+        → At (now (src .entry)) (now (tape .entry)) p o m k → r ≡ placeOf K (w ▸ m)) ⌝ }
+{
+    let e = element_at(tape, p);
+    let v = view_at(tape, e);
+    child(text, table, paths, place, src, v.start, v.end)
+}
+
+// How the label of the sibling at p, whose element is at the place `own`, compares with that of the version's next element, q: 0 before,
+// also where none is left, 1 the same, 2 after.
+pub fn order_of(
+    text: &[u8],
+    table: &[u32],
+    paths: usize,
+    own: usize,
     src: &[u8],
     tape: &[u32],
     p: usize,
@@ -137,8 +160,8 @@ pub fn order_of(
     q: usize,
     vhi: usize,
 ) -> u8
-    requires { ⌜ SomeNext (now text) (now table) paths place (now src) (now tape) p (now vsrc) (now vtape) q vhi ⌝ }
-    ensures { λ r. ⌜ OfPlace (now (text .entry)) (now (table .entry)) paths place (λ K w. (o : Option Bytes) (m : Bytes) (k v : Forest)
+    requires { ⌜ SomeNext (now text) (now table) paths own (now src) (now tape) p (now vsrc) (now vtape) q vhi ⌝ }
+    ensures { λ r. ⌜ ((K : KeyList) (w : Path) → Table (now (text .entry)) (now (table .entry)) paths K → (o : Option Bytes) (m : Bytes) (k v : Forest) → placeOf K (w ▸ m) ≡ own
         → At (now (src .entry)) (now (tape .entry)) p o m k → Tape (now (vsrc .entry)) (now (vtape .entry)) q vhi v → VersionIn K w v
         → r ≡ orderOf (label K w m k) (firstLabel K w v)) ⌝ }
 {
@@ -146,5 +169,5 @@ pub fn order_of(
         return 0;
     }
     let e = element_at(tape, p);
-    compare_labels(text, table, paths, place, src, tape, e, vsrc, vtape, q)
+    compare_labels_at(text, table, paths, own, src, tape, e, vsrc, vtape, q)
 }

@@ -13,6 +13,7 @@ use Rattle.xml.specs.Tape.{headAt, nextAt, Tape, at-end, at-text, at-elem, at-s
 use Rattle.xml.specs.TapeLaws.{tape-none}
 use Rattle.keys.specs.KeyList.{Path, KeyList, above, listed, keyNamesAt, rulesKept}
 use Rattle.keys.specs.Table.{placeOf}
+use Rattle.keys.specs.Beneath.{front-keyed}
 use Rattle.keys.specs.PlaceLaws.{few-paths, place-below, place-unlisted}
 use Rattle.keys.specs.Version.{_▸_, dropWhite, misplaced, called, isOneValue, unkeyed}
 
@@ -161,6 +162,11 @@ module _ (K : KeyList) where
   keyless-other p (at-text {b = b} n u e r) k = ap (λ x. keyless K p (text b x)) (tape-none (rw (← e) at r)) ∙ keyless-text p b
   keyless-other p (at-elem n i r) k = absurd (k (n .kind-is))
   keyless-other p (at-stamp {t = t} {k = j} n i r) k = ap (λ x. keyless K p (stamp t j x)) (tape-none r) ∙ keyless-stamp p t j
+
+  -- what a frontier holds
+  pub keyless-under : (p : Path) (f : Forest) → above K p ≡ false → keyless K p f ≡ false
+  unfolding keyless
+  keyless-under p f h = front-keyed K p (dropWhite K p f) h
 
   -- an element by itself
   module _ (p : Path) {n : Bytes} {f k : Forest} (e : f ≡ elem n k end) where

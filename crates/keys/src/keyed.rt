@@ -1,6 +1,7 @@
 // Refusal 8: a key child that is missing, repeated or illegal. Asked once 6 does not apply.
 use crate::label::find_key;
 use crate::places::child;
+use crate::places::is_above;
 use crate::places::key_count;
 use crate::places::key_name;
 use xml::class::is_name_byte;
@@ -127,6 +128,9 @@ fn unkeyed_node(
     let below = child(text, table, n, place, src, v.start, v.end);
     if lacks_key(text, table, n, below, src, tape, p + 1, v.next) {
         return true;
+    }
+    if !is_above(table, n, below) {
+        return false;
     }
     unkeyed_content(text, table, n, below, src, tape, p + 1, v.next)
 }

@@ -13,7 +13,7 @@ ghost use Rattle.xml.specs.Tape.{Tape, Valid};
 ghost use Rattle.keys.specs.Version.{called};
 ghost use Rattle.keys.specs.Ranks.{rank, compareBytes};
 ghost use Rattle.keys.specs.FindKey.{KeyAt};
-ghost use Rattle.keys.specs.Labelled.{KeyedAt, Labelled, KeysCompared, LabelsCompared};
+ghost use Rattle.keys.specs.Labelled.{KeyedAt, Labelled, Beside, KeysCompared, LabelsCompared, LabelsComparedAt};
 
 // Compares s[a..e] with t[b..d] as byte strings, a prefix first: 0 before, 1 the same, 2 after.
 pub fn compare_bytes(s: &[u8], a: usize, e: usize, t: &[u8], b: usize, d: usize) -> u8
@@ -128,6 +128,44 @@ pub fn compare_labels(
         return names;
     }
     let own = child(text, table, n, place, src1, v.start, v.end);
+    compare_keys(
+        text,
+        table,
+        n,
+        own,
+        src1,
+        tape1,
+        p1 + 1,
+        v.next,
+        src2,
+        tape2,
+        p2 + 1,
+        w.next,
+    )
+}
+
+// The same where the place of the first element is known: it is at the place `own`, and the second is in an element of the same path.
+pub fn compare_labels_at(
+    text: &[u8],
+    table: &[u32],
+    n: usize,
+    own: usize,
+    src1: &[u8],
+    tape1: &[u32],
+    p1: usize,
+    src2: &[u8],
+    tape2: &[u32],
+    p2: usize,
+) -> u8
+    requires { ⌜ Beside (now text) (now table) n own (now src1) (now tape1) p1 (now src2) (now tape2) p2 ⌝ }
+    ensures { λ r. ⌜ LabelsComparedAt (now (text .entry)) (now (table .entry)) n own (now (src1 .entry)) (now (tape1 .entry)) p1 (now (src2 .entry)) (now (tape2 .entry)) p2 r ⌝ }
+{
+    let v = view_at(tape1, p1);
+    let w = view_at(tape2, p2);
+    let names = compare_bytes(src1, v.start, v.end, src2, w.start, w.end);
+    if names != 1 {
+        return names;
+    }
     compare_keys(
         text,
         table,

@@ -77,11 +77,11 @@ pub record SomeHeld (text : Bytes) (table : List ℕ) (n-paths place : ℕ) (src
   pub other : Forest
   pub held : Held text table n-paths place src cells lo hi vsrc vcells vlo vhi n a e keyList path times forest other
 
--- of a sibling, in an element at the place, that the version has too
+-- of a sibling whose element is at the place, and that the version has too
 pub record Both (text : Bytes) (table : List ℕ) (n-paths place : ℕ) (src cells : List ℕ) (p : ℕ) (vsrc vcells : List ℕ) (q n a e : ℕ)
     (K : KeyList) (w : Path) (t : Times) (o : Option Bytes) (m : Bytes) (k g : Forest) : Type 0 where
   pub tabled : Table text table n-paths K
-  pub place-is : placeOf K w ≡ place
+  pub place-is : placeOf K (w ▸ m) ≡ place
   pub at : At src cells p o m k
   pub own-set : SetOf n o
   pub siblings : above K (w ▸ m) ≡ true → SiblingsIn K n (w ▸ m) k
@@ -102,15 +102,15 @@ pub record SomeBoth (text : Bytes) (table : List ℕ) (n-paths place : ℕ) (src
   pub other : Forest
   pub both : Both text table n-paths place src cells p vsrc vcells q n a e keyList path times own name kids other
 
--- of the next siblings of both, to compare their labels
+-- of the next siblings of both, to compare their labels, where the element of the archive's is at the place
 pub record SomeNext (text : Bytes) (table : List ℕ) (n-paths place : ℕ) (src cells : List ℕ) (p : ℕ) (vsrc vcells : List ℕ) (q vhi : ℕ) : Type 0 where
   pub keyList : KeyList
   pub path : Path
   pub tabled : Table text table n-paths keyList
-  pub place-is : placeOf keyList path ≡ place
   pub own : Option Bytes
   pub name : Bytes
   pub kids : Forest
+  pub place-is : placeOf keyList (path ▸ name) ≡ place
   pub at : At src cells p own name kids
   pub keys : hasKeys (keyNamesAt keyList (path ▸ name)) kids ≡ true
   pub other : Forest

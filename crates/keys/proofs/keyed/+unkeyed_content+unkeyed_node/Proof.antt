@@ -6,8 +6,9 @@ use Rattle.xml.specs.Tape.{nextAt}
 use Rattle.xml.specs.TapeLaws.{bytesAt, inner-node}
 use Rattle.keys.specs.Version.{_▸_}
 use Rattle.keys.specs.Walks.{Walk, OfNodes, walk-front, walk-node, walk-next, walk-kids, Going, going-start, going-more, going-found, going-done}
-use Rattle.keys.specs.Strays.{keyless, keyless-end, keyless-other, keyless-lacking, keyless-inside, keyless-here, keyless-past}
+use Rattle.keys.specs.Strays.{keyless, keyless-end, keyless-other, keyless-under, keyless-lacking, keyless-inside, keyless-here, keyless-past}
 use Prim.Native.Nat.{ℕ, _+_, _*_, _-_, _<_, _≤_}
+use borrow.Author.Tests.{not-true}
 use borrow.Fn.Kinds.{In}
 use borrow.Fn.PlainCycle.{Measures, is, falls, and}
 use Rattle.keys.proofs.keyed.unkeyed_content.Reads as unkeyed-content
@@ -18,6 +19,7 @@ use Rattle.keys.proofs.keyed.unkeyed_node.Kinds as unkeyed-node-kinds
 use Rattle.keys.proofs.keyed.+unkeyed_content+unkeyed_node.Lts-unkeyed_node as unkeyed-node-lts
 use Rattle.keys.proofs.keyed.lacks_key.Reads as lacks-key-reads
 use Rattle.keys.proofs.places.child.Reads as child-reads
+use Rattle.keys.proofs.places.is_above.Reads as is-above-reads
 use Rattle.xml.proofs.tape.view_at.Reads as view-at-reads
 use Rattle.keys.proofs.keyed.+unkeyed_content+unkeyed_node.{statement}
 use Rattle.keys.proofs.keyed.+unkeyed_content+unkeyed_node.Tie.{close}
@@ -51,7 +53,7 @@ abbrev unkeyed-content-μ-loop : unkeyed-content-lts.MeasureT-loop
 unkeyed-content-μ-loop text table n place src tape lo hi p₀ p = hi - p
 
 abbrev unkeyed-node-calls : ℕ → unkeyed-node-lts.Claims
-unkeyed-node-calls t = (view-at-reads.Asked, view-at-reads.Learnt, child-reads.Asked, child-reads.Learnt, lacks-key-reads.Asked, lacks-key-reads.Learnt, unkeyed-content-below t, unkeyed-content.Post)
+unkeyed-node-calls t = (view-at-reads.Asked, view-at-reads.Learnt, child-reads.Asked, child-reads.Learnt, lacks-key-reads.Asked, lacks-key-reads.Learnt, is-above-reads.Asked, is-above-reads.Learnt, unkeyed-content-below t, unkeyed-content.Post)
 
 module _ (t : ℕ) where
   unkeyed-content-loop-holds : unkeyed-content-lts.Need-loop-holds (unkeyed-content-calls t) (unkeyed-content-at t) unkeyed-content.Post unkeyed-content-Inv-loop unkeyed-content-μ-loop
@@ -117,25 +119,38 @@ module _ (t : ℕ) where
       let o = rw v at (c .before .lacks-key .ensures) in
       sym (keyless-lacking K q (i .element k) (sym (o K (q ▸ bytesAt (c .before .before .before .before .before .before .before .before .before .before .args .src .now) (c .before .before .before .before .before .before .before .before .before .before .args .tape .now) (c .before .before .before .before .before .before .before .before .before .before .args .p)) s (sym (d K q s e)) (i .kids) (i .tape)) ∙ c .if2 .taken))
 
-  unkeyed-node-add-unkeyed-content : unkeyed-node-lts.Need-add-unkeyed-content (unkeyed-node-calls t) (unkeyed-node-at t) unkeyed-node.Post
-  unkeyed-node-add-unkeyed-content c = omega (arith, walk-front (c .before .before .before .before .before .before .before .before .before .before .pre .1 .1) (c .before .before .before .before .before .before .before .before .before .before .pre .1 .0) .held)
-
-  unkeyed-node-unkeyed-content-requires : unkeyed-node-lts.Need-unkeyed-content-requires (unkeyed-node-calls t) (unkeyed-node-at t) unkeyed-node.Post
-  unkeyed-node-unkeyed-content-requires c κs = rw (c .before .before .before .before .before .view-at .ensures) (omega (arith, c .before .before .before .before .before .before .before .before .before .before .pre .0, c .before .before .before .before .before .before .before .before .before .before .pre .1 .0), below (c .before .before))
+  unkeyed-node-is-above-requires : unkeyed-node-lts.Need-is-above-requires (unkeyed-node-calls t) (unkeyed-node-at t) unkeyed-node.Post
+  unkeyed-node-is-above-requires c κs = c .before .before .before .before .before .before .before .before .before .before .pre .1 .1 .placed .table .held
 
   unkeyed-node-returns-3 : unkeyed-node-lts.Need-returns-3 (unkeyed-node-calls t) (unkeyed-node-at t) unkeyed-node.Post
   unkeyed-node-returns-3 c K q s e f h =
-      let v = c .before .before .before .before .before .before .view-at .ensures in
-      let k = rw v at (c .before .before .before .before .if1 .left) in
-      let i = inner-node h (c .before .before .before .before .before .before .before .before .before .before .before .pre .1 .0) (λ z. omega arith) in
-      let d = rw v at (c .before .before .before .child .ensures) in
-      let o = rw v at (c .before .before .lacks-key .ensures) in
+      let v = c .before .before .before .before .before .before .before .view-at .ensures in
+      let k = rw v at (c .before .before .before .before .before .if1 .left) in
+      let i = inner-node h (c .before .before .before .before .before .before .before .before .before .before .before .before .pre .1 .0) (λ z. omega arith) in
+      let d = rw v at (c .before .before .before .before .child .ensures) in
+      let o = rw v at (c .before .before .before .lacks-key .ensures) in
+      let n = q ▸ bytesAt (c .before .before .before .before .before .before .before .before .before .before .before .before .args .src .now) (c .before .before .before .before .before .before .before .before .before .before .before .before .args .tape .now) (c .before .before .before .before .before .before .before .before .before .before .before .before .args .p) in
+      sym (keyless-inside K q (i .element k) (sym (o K n s (sym (d K q s e)) (i .kids) (i .tape)) ∙ c .before .before .if2 .left) ∙ keyless-under K n (i .kids) (sym (c .before .is-above .ensures (c .before .before .before .before .before .before .before .before .before .before .before .before .args .text .now) K n s (sym (d K q s e))) ∙ not-true _ (c .if3 .taken)))
+
+  unkeyed-node-add-unkeyed-content : unkeyed-node-lts.Need-add-unkeyed-content (unkeyed-node-calls t) (unkeyed-node-at t) unkeyed-node.Post
+  unkeyed-node-add-unkeyed-content c = omega (arith, walk-front (c .before .before .before .before .before .before .before .before .before .before .before .before .pre .1 .1) (c .before .before .before .before .before .before .before .before .before .before .before .before .pre .1 .0) .held, c .before .before .before .before .before .before .before .before .before .before .before .before .good .1 .1 .1 .1 .1 .0)
+
+  unkeyed-node-unkeyed-content-requires : unkeyed-node-lts.Need-unkeyed-content-requires (unkeyed-node-calls t) (unkeyed-node-at t) unkeyed-node.Post
+  unkeyed-node-unkeyed-content-requires c κs = rw (c .before .before .before .before .before .before .before .view-at .ensures) (omega (arith, c .before .before .before .before .before .before .before .before .before .before .before .before .pre .0, c .before .before .before .before .before .before .before .before .before .before .before .before .pre .1 .0), below (c .before .before .before .before))
+
+  unkeyed-node-returns-4 : unkeyed-node-lts.Need-returns-4 (unkeyed-node-calls t) (unkeyed-node-at t) unkeyed-node.Post
+  unkeyed-node-returns-4 c K q s e f h =
+      let v = c .before .before .before .before .before .before .before .before .view-at .ensures in
+      let k = rw v at (c .before .before .before .before .before .before .if1 .left) in
+      let i = inner-node h (c .before .before .before .before .before .before .before .before .before .before .before .before .before .pre .1 .0) (λ z. omega arith) in
+      let d = rw v at (c .before .before .before .before .before .child .ensures) in
+      let o = rw v at (c .before .before .before .before .lacks-key .ensures) in
       let r = rw v at (c .unkeyed-content .ensures) in
-      let n = q ▸ bytesAt (c .before .before .before .before .before .before .before .before .before .before .before .args .src .now) (c .before .before .before .before .before .before .before .before .before .before .before .args .tape .now) (c .before .before .before .before .before .before .before .before .before .before .before .args .p) in
-      r K n s (sym (d K q s e)) (i .kids) (i .tape) ∙ sym (keyless-inside K q (i .element k) (sym (o K n s (sym (d K q s e)) (i .kids) (i .tape)) ∙ c .before .if2 .left))
+      let n = q ▸ bytesAt (c .before .before .before .before .before .before .before .before .before .before .before .before .before .args .src .now) (c .before .before .before .before .before .before .before .before .before .before .before .before .before .args .tape .now) (c .before .before .before .before .before .before .before .before .before .before .before .before .before .args .p) in
+      r K n s (sym (d K q s e)) (i .kids) (i .tape) ∙ sym (keyless-inside K q (i .element k) (sym (o K n s (sym (d K q s e)) (i .kids) (i .tape)) ∙ c .before .before .before .if2 .left))
 
 pub +unkeyed-content+unkeyed-node-spec : {M : Type 1} → statement M
 +unkeyed-content+unkeyed-node-spec =
     close μ-unkeyed-content μ-unkeyed-node
     (λ t. unkeyed-content-lts.spec (unkeyed-content-calls t) (unkeyed-content-at t) unkeyed-content.Post unkeyed-content-Inv-loop unkeyed-content-μ-loop (unkeyed-content-loop-holds t) (unkeyed-content-unkeyed-node-requires t) (unkeyed-content-returns t) (unkeyed-content-view-at-requires t) (unkeyed-content-loop-less t) (unkeyed-content-loop-again t) (unkeyed-content-returns-2 t))
-    (λ t. unkeyed-node-lts.spec (unkeyed-node-calls t) (unkeyed-node-at t) unkeyed-node.Post (unkeyed-node-view-at-requires t) (unkeyed-node-returns t) (unkeyed-node-child-requires t) (unkeyed-node-add-lacks-key t) (unkeyed-node-lacks-key-requires t) (unkeyed-node-returns-2 t) (unkeyed-node-add-unkeyed-content t) (unkeyed-node-unkeyed-content-requires t) (unkeyed-node-returns-3 t))
+    (λ t. unkeyed-node-lts.spec (unkeyed-node-calls t) (unkeyed-node-at t) unkeyed-node.Post (unkeyed-node-view-at-requires t) (unkeyed-node-returns t) (unkeyed-node-child-requires t) (unkeyed-node-add-lacks-key t) (unkeyed-node-lacks-key-requires t) (unkeyed-node-returns-2 t) (unkeyed-node-is-above-requires t) (unkeyed-node-returns-3 t) (unkeyed-node-add-unkeyed-content t) (unkeyed-node-unkeyed-content-requires t) (unkeyed-node-returns-4 t))
