@@ -1,8 +1,8 @@
 -- What one version has of some nodes at most: of the contents of a frontier, of which it has no two (Parted.antt), the largest counts.
-use Prim.Native.Nat.{ℕ, zero, suc, _+_, _*_, _-_, _%_, _<_, _≤_, max}
+use Prim.Native.Nat.{ℕ, zero, suc, _+_, _*_, _-_, _/_, _%_, _<_, _≤_, max}
 use native.Mathlib.Omega.{arith}
 use mathlib.Core.Path.{_≡_, refl, sym, _∙_, ap}
-use mathlib.Core.Bool.{Bool, true, false, not, _&&_, _||_}
+use mathlib.Core.Bool.{Bool, true, false, not, and-false, or-false}
 use mathlib.Core.List.{List, []}
 use borrow.Author.Tests.{le-leb, not-true}
 use lib.Dec.{leb}
@@ -21,12 +21,11 @@ use Rattle.versions.specs.Sizes.{one, whenIn, nodes-join, write-join}
 use Rattle.versions.specs.Small.{LegalInside}
 use Rattle.versions.specs.VersionText.{pick-join}
 use Rattle.keys.specs.Version.{tooLarge}
-use Rattle.legality.specs.Measured.{one-most}
+use Rattle.legality.specs.Measured.{one-most, when-all}
 use Rattle.legality.specs.Going.{text-short, name-length}
 use Rattle.legality.specs.Layered.{depth-pick, depth-join}
 use Rattle.legality.specs.Parted.{hasContent, Parted, has-join, parted-join, parted-last, siblings-parted}
 use Rattle.legality.specs.SmallLaws.{not-large}
-use Rattle.legality.specs.declared.sizes.Own.{Own}
 
 -- a `T` around anything but one element: a content of a frontier
 unfoldable pub contentNode : Forest → Bool
@@ -47,12 +46,24 @@ pub record Most (src cells : List ℕ) (lo hi left n b : ℕ) : Type 0 where
   pub short : b ≤ 163840 * (hi - lo)
   pub each : (f : Forest) → Tape src cells lo hi f → (v : ℕ) → Parted v f → Bounded v f left n b
 
--- what a walk that has not stopped answers
-abbrev pub Bounds : List ℕ → List ℕ → ℕ → ℕ → ℕ → Own → Type 0
-Bounds src cells lo hi left r = r .stopped ≡ false → Most src cells lo hi left (r .nodes) (r .bytes)
+-- what a walk answers in one number, the nodes times 2 ^ 32 and the bytes: 513 nodes and more say nothing
+abbrev pub Bounds : List ℕ → List ℕ → ℕ → ℕ → ℕ → ℕ → Type 0
+Bounds src cells lo hi left r = r < 2203318222848 → Most src cells lo hi left (r / 4294967296) (r % 4294967296)
 
-pub stopped-bounds : {src cells : List ℕ} {lo hi left : ℕ} {r : Own} → r .stopped ≡ true → Bounds src cells lo hi left r
-stopped-bounds e d = clash (sym e ∙ d)
+pub stopped-bounds : {src cells : List ℕ} {lo hi left r : ℕ} → 2203318222848 ≤ r → Bounds src cells lo hi left r
+stopped-bounds e d = absurd (omega arith)
+
+-- a number holds what it was made of
+packed-nodes : (n b : ℕ) → b < 4294967296 → (n * 4294967296 + b) / 4294967296 ≡ n
+packed-nodes n b l = omega arith
+
+packed-bytes : (n b : ℕ) → b < 4294967296 → (n * 4294967296 + b) % 4294967296 ≡ b
+packed-bytes n b l = omega arith
+
+pub packed-bounds : {src cells : List ℕ} {lo hi left n b r : ℕ} → Most src cells lo hi left n b → hi ≤ 16384 → r ≡ n * 4294967296 + b → Bounds src cells lo hi left r
+packed-bounds {n = n} {b} m h e d =
+    let l : b < 4294967296 = omega (arith, m .short) in
+    rw (e, packed-nodes n b l, packed-bytes n b l) m
 
 -- ---- a `T` alone, in a version that has it or lacks it
 pick-has : (v : ℕ) (s : Bytes) (k : Forest) → belongs v s ≡ true → pick v (stamp s k end) ≡ pick v k
@@ -71,17 +82,9 @@ bytes-lacking : (v : ℕ) (s : Bytes) (k : Forest) → belongs v s ≡ false →
 unfolding write
 bytes-lacking v s k e = ap (λ (f : Forest). length (write f)) (pick-lacks v s k e)
 
-pub no-and : (b : Bool) → (b && false) ≡ false
-no-and true = refl
-no-and false = refl
-
-no-or : (b : Bool) → (b || false) ≡ b
-no-or true = refl
-no-or false = refl
-
 content-lacking : (v : ℕ) (s : Bytes) (k : Forest) → belongs v s ≡ false → hasContent v (stamp s k end) ≡ false
 unfolding hasContent
-content-lacking v s k e = rw (e, no-and (not (isSole k))) refl
+content-lacking v s k e = rw (e, and-false (not (isSole k))) refl
 
 content-there : (v : ℕ) (s : Bytes) (k : Forest) → isSole k ≡ false → belongs v s ≡ true → hasContent v (stamp s k end) ≡ true
 unfolding hasContent
@@ -157,9 +160,6 @@ module _ {src cells : List ℕ} {p : ℕ} where
   node-held (at-elem n k r) l = front k l .held
   node-held (at-stamp n k r) l = front k l .held
 
-  pub inside-valid : Valid src cells p (nextAt cells p) → p < nextAt cells p → (headAt cells p % 4 ≡ 0 → ⊥) → Valid src cells (p + 1) (nextAt cells p)
-  inside-valid x l k = let i = inner-node (x .tape) l k in record { forest = i .kids; tape = i .tape }
-
   -- whether it is a content
   pub other-node : {f : Forest} → Tape src cells p (nextAt cells p) f → p < nextAt cells p → (headAt cells p % 4 ≡ 2 → ⊥) → contentNode f ≡ false
   unfolding contentNode
@@ -217,7 +217,7 @@ bytes-both v f g = ap (λ (h : Forest). length (write h)) (pick-join v f g) ∙ 
 
 summed-plain : (v : ℕ) (d g : Forest) {left n b m c i j : ℕ} → Summed v d left n b m c → Bounded v g left i j → hasContent v g ≡ false → Summed v (join d g) left (n + i) (b + j) m c
 summed-plain v d g s h e =
-    let w : hasContent v (join d g) ≡ hasContent v d = has-join v d g ∙ rw e (no-or (hasContent v d)) in
+    let w : hasContent v (join d g) ≡ hasContent v d = has-join v d g ∙ rw e (or-false (hasContent v d)) in
     record {
       flat = omega (arith, depth-join d g, s .flat, h .flat);
       nodes-in = rw w (omega (arith, nodes-both v d g, s .nodes-in, h .nodes-in));
@@ -228,7 +228,7 @@ summed-lacks : (v : ℕ) (d : Forest) (t : Bytes) (k : Forest) {left n b m c x y
     → m ≤ x → c ≤ y → Summed v (join d (stamp t k end)) left n b x y
 summed-lacks v d t k s h e mx cy =
     let g = stamp t k end in
-    let w : hasContent v (join d g) ≡ hasContent v d = has-join v d g ∙ rw (content-lacking v t k e) (no-or (hasContent v d)) in
+    let w : hasContent v (join d g) ≡ hasContent v d = has-join v d g ∙ rw (content-lacking v t k e) (or-false (hasContent v d)) in
     record {
       flat = omega (arith, depth-join d g, s .flat, h .flat);
       nodes-in = rw w (omega (arith, nodes-both v d g, s .nodes-in, nodes-lacking v t k e, when-most (hasContent v d) mx));
@@ -314,10 +314,6 @@ module _ {src cells : List ℕ} {lo p q left n b m c : ℕ} where
               bytes-in = omega (arith, s .bytes-in, when-all (hasContent v (g .done)) c);
             });
       }
-    where
-      when-all : (b : Bool) (x : ℕ) → whenIn b x ≤ x
-      when-all true x = omega arith
-      when-all false x = omega arith
 
 pub gone-start : {src cells : List ℕ} {lo q left : ℕ} → Valid src cells lo q → Gone src cells lo lo q left 0 0 0 0
 unfolding depth pick nodes write hasContent

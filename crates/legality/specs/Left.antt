@@ -1,7 +1,6 @@
 -- The versions of a frontier that no content so far has. A content takes its own from them; the union of the contents is what is taken.
 use Prim.Native.Nat.{ℕ, _%_, _≤_, _<_}
 use native.Mathlib.Omega.{arith}
-use native.Mathlib.Decide.{decLe}
 use mathlib.Core.Path.{_≡_, refl, sym, _∙_, ap, fun-ext}
 use mathlib.Core.Bool.{Bool, true, false, not, _&&_, _||_, Bool·beq}
 use mathlib.Core.List.{List}
@@ -10,16 +9,14 @@ use lib.Dec.{leb}
 use Rattle.xml.specs.Bytes.{Bytes}
 use Rattle.xml.specs.Tape.{headAt}
 use Rattle.xml.specs.TapeLaws.{bytesAt}
-use Rattle.xml.specs.Truth.{clash, not-so, and-left, and-right, and-both}
+use Rattle.xml.specs.Truth.{by-test, clash, not-so, and-left, and-right, and-both}
 use Rattle.timestamp.specs.Set.{none, upTo, joined, without, every, sameSet, isNone, subset, firstIn}
 use Rattle.timestamp.specs.Tests.{subset-tells, subset-told, apart-told}
-use Rattle.timestamp.specs.First.{first-before}
-use Rattle.timestamp.specs.Taken.{Ranges}
-use Rattle.timestamp.specs.Ends.{EndsBy}
+use Rattle.timestamp.specs.TakenText.{firstTaken}
 use Rattle.timestamp.specs.Listed.{Only}
-use Rattle.timestamp.specs.Parse.{accepted, parsed}
+use Rattle.timestamp.specs.Parse.{Outcome, refused, accepted, parsed}
 use Rattle.timestamp.specs.Parses.{text-parse}
-use Rattle.versions.specs.Branches.{follows, follows-in, Way, way-new}
+use Rattle.versions.specs.Branches.{follows, follows-early, follows-in, Way, way-new, way-not, way-refused}
 
 -- every number of s is one of t
 abbrev pub Within : (ℕ → Bool) → (ℕ → Bool) → Type 0
@@ -40,14 +37,6 @@ none-taken t = fun-ext (λ v. go (t v))
     go : (a : Bool) → (a && not a) ≡ false
     go true = refl
     go false = refl
-
--- the numbers of a set are from its least to before its end
-pub first-ranges : (s : ℕ → Bool) (e : ℕ) → EndsBy e s → Ranges (firstIn 1024 s 0) e s
-first-ranges s e h v q = (go (decLe (firstIn 1024 s 0) v), h .1 v q)
-  where
-    go : Dec (firstIn 1024 s 0 ≤ v) → firstIn 1024 s 0 ≤ v
-    go (yes d) = d
-    go (no d) = clash (sym q ∙ first-before s 1024 0 v (omega arith) (omega arith))
 
 module _ (t l : ℕ → Bool) where
   -- at last all is taken just where none is left
@@ -91,3 +80,30 @@ module _ (t l : ℕ → Bool) where
       has true true e d = refl
       has true false e d = sym d
       has false b e d = clash (sym e)
+
+  -- of a content whose set is not to be taken, or begins too early
+  pub way-untaken : {src cells : List ℕ} {n lo p q m c : ℕ} {whole : Bool} → Way src cells lo p q n t (without t l) m c whole → p < q → headAt cells p % 4 ≡ 2
+      → firstTaken l (parsed (bytesAt src cells p)) ≤ m → whole ≡ false
+  unfolding firstTaken
+  way-untaken {src} {cells} {n} {lo} {p} {q} {m} {c} {whole} x o k h = go (parsed (bytesAt src cells p)) refl
+    where
+      go : (y : Outcome) → parsed (bytesAt src cells p) ≡ y → whole ≡ false
+      go refused e = way-refused x o k e
+      go (accepted s) e =
+          by-test (subset s l) (λ z. way-not x o k s e (follows-early n (without t l) m s (rw (e, z) at h))) (λ z. way-lacking x o k s e z)
+
+-- a set that was taken: r, past m, is its first number
+pub record Took (l : ℕ → Bool) (b : Bytes) (r : ℕ) : Type 0 where
+  pub set : ℕ → Bool
+  pub is : parsed b ≡ accepted set
+  pub had : subset set l ≡ true
+  pub first : r ≡ firstIn 1024 set 0
+
+pub took : (l : ℕ → Bool) (b : Bytes) (m r : ℕ) → r ≡ firstTaken l (parsed b) → m < r → Took l b r
+unfolding firstTaken
+took l b m r e h = go (parsed b) refl
+  where
+    go : (y : Outcome) → parsed b ≡ y → Took l b r
+    go refused d = let z : r ≡ 0 = rw d at e in absurd (omega arith)
+    go (accepted s) d =
+        by-test (subset s l) (λ z. record { set = s; is = d; had = z; first = rw (d, z) at e }) (λ z. let w : r ≡ 0 = rw (d, z) at e in absurd (omega arith))

@@ -96,9 +96,9 @@ one-most n = go (same n (bytes "T"))
     go true = omega arith
     go false = omega arith
 
-when-most : (b : Bool) (x : ℕ) → whenIn b x ≤ x
-when-most true x = omega arith
-when-most false x = omega arith
+pub when-all : (b : Bool) (x : ℕ) → whenIn b x ≤ x
+when-all true x = omega arith
+when-all false x = omega arith
 
 module _ {src cells : List ℕ} where
   pub few-nodes : {p q : ℕ} {f : Forest} (v : ℕ) → Tape src cells p q f → ownNodes f + timedIn ownNodes v f ≤ q - p
@@ -106,14 +106,14 @@ module _ {src cells : List ℕ} where
   few-nodes v (at-end e) = omega arith
   few-nodes v (at-text n u e r) = omega (arith, few-nodes v r, tape-le r)
   few-nodes v (at-elem {n = b} n k r) = omega (arith, one-most b, few-nodes v k, few-nodes v r, tape-le k, tape-le r)
-  few-nodes v (at-stamp {t = t} {k = f} n k r) = omega (arith, when-most (belongs v t) (ownNodes f), few-nodes v k, few-nodes v r, tape-le k, tape-le r)
+  few-nodes v (at-stamp {t = t} {k = f} n k r) = omega (arith, when-all (belongs v t) (ownNodes f), few-nodes v k, few-nodes v r, tape-le k, tape-le r)
 
   pub few-bytes : {p q : ℕ} {f : Forest} (v : ℕ) → Tape src cells p q f → ownBytes f + timedIn ownBytes v f ≤ 163840 * (q - p)
   unfolding ownBytes timedIn
   few-bytes v (at-end e) = omega arith
   few-bytes v (at-text {raw = raw} {b = b} n u e r) = omega (arith, node-bytes n, ap length u, length-unescape 0 raw, length-escape b, few-bytes v r, tape-le r)
   few-bytes v (at-elem n k r) = omega (arith, node-bytes n, few-bytes v k, few-bytes v r, tape-le k, tape-le r)
-  few-bytes v (at-stamp {t = t} {k = f} n k r) = omega (arith, when-most (belongs v t) (ownBytes f), few-bytes v k, few-bytes v r, tape-le k, tape-le r)
+  few-bytes v (at-stamp {t = t} {k = f} n k r) = omega (arith, when-all (belongs v t) (ownBytes f), few-bytes v k, few-bytes v r, tape-le k, tape-le r)
 
 -- ---- what the walk asks, and what it has done
 pub record Room (src cells : List ℕ) (lo hi : ℕ) (nodes bytes : List ℕ) : Type 0 where

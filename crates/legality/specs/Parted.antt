@@ -1,7 +1,7 @@
 -- The contents of a frontier, each in a `T` of its own: in a legal archive no version has two of them.
 use Prim.Native.Nat.{ℕ, zero, suc, _<_}
 use mathlib.Core.Path.{_≡_, refl, sym, _∙_, ap}
-use mathlib.Core.Bool.{Bool, true, false, not, _&&_, _||_}
+use mathlib.Core.Bool.{Bool, true, false, not, _&&_, _||_, and-false}
 use mathlib.Core.Option.{some}
 use mathlib.Core.List.{[], _∷_}
 use borrow.Author.Tests.{not-true}
@@ -95,11 +95,7 @@ module _ (n i : ℕ) (l : i < n) where
       let h2 = both-true _ (earlier t (timesIn n s)) (h3 .0) in
       let h1 = both-true (not (sameForest k f)) (disjoint t (timesIn n s)) (h2 .0) in
       let z : belongs (suc i) s ≡ false = sym (times-at n s i l) ∙ disjoint-at t (timesIn n s) i (h1 .1) e in
-      or-both (not (isSole k) && belongs (suc i) s) (hasContent (suc i) r) (rw z (and-no (not (isSole k)))) (apart-none t f r (both-true (canonical n s && untimed k) (allTimed n r) a .1) (h3 .1) e)
-    where
-      and-no : (b : Bool) → (b && false) ≡ false
-      and-no true = refl
-      and-no false = refl
+      or-both (not (isSole k) && belongs (suc i) s) (hasContent (suc i) r) (rw z (and-false (not (isSole k)))) (apart-none t f r (both-true (canonical n s && untimed k) (allTimed n r) a .1) (h3 .1) e)
 
   branches-parted : (f : Forest) → allTimed n f ≡ true → contentsApart (branchesIn n f) ≡ true → Parted (suc i) f
   unfolding allTimed branchesIn contentsApart

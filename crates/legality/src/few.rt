@@ -1,10 +1,8 @@
 // A frontier with a few contents: they are compared two by two, with no marks.
 use crate::front::is_untimed;
-use crate::times::scan_at;
+use crate::times::take_at;
 use timestamp::Timestamp;
-use timestamp::first_in;
 use timestamp::is_none;
-use timestamp::take;
 use xml::compare::same_nodes;
 use xml::tape::view_at;
 ghost use mathlib.Core.Path.{_≡_};
@@ -77,15 +75,8 @@ pub(crate) fn few_legal(
         if v.kind != 2 {
             return false;
         }
-        let b = scan_at(src, v.start, v.end);
-        if !b.ok {
-            return false;
-        }
-        let start = first_in(&b.stamp.words, 0);
+        let start = take_at(&mut left, src, v.start, v.end);
         if start <= first {
-            return false;
-        }
-        if !take(&mut left, &b.stamp.words, start, b.end) {
             return false;
         }
         if !is_new(src, tape, lo, p, p + 1, v.next) {

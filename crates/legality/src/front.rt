@@ -2,11 +2,9 @@
 use crate::few::are_few;
 use crate::few::few_legal;
 use crate::mark::mark;
-use crate::times::scan_at;
+use crate::times::take_at;
 use timestamp::Timestamp;
-use timestamp::first_in;
 use timestamp::is_none;
-use timestamp::take;
 use xml::compare::same_bytes;
 use xml::compare::same_nodes;
 use xml::tape::view_at;
@@ -176,15 +174,8 @@ fn branches_legal(
         if v.kind != 2 {
             return false;
         }
-        let b = scan_at(src, v.start, v.end);
-        if !b.ok {
-            return false;
-        }
-        let start = first_in(&b.stamp.words, 0);
+        let start = take_at(&mut left, src, v.start, v.end);
         if start <= first {
-            return false;
-        }
-        if !take(&mut left, &b.stamp.words, start, b.end) {
             return false;
         }
         let m = mark(src, tape, p + 1, v.next) as u16;

@@ -1,6 +1,6 @@
 // Siblings of an archive above the frontiers: which are legal.
 use crate::front::front_legal;
-use crate::times::times_at;
+use crate::times::parse_at;
 use keys::keyed::has_key;
 use keys::label::compare_labels;
 use keys::places::child;
@@ -8,7 +8,7 @@ use keys::places::is_above;
 use keys::places::key_count;
 use keys::places::key_name;
 use timestamp::Timestamp;
-use timestamp::text::Parsed;
+use timestamp::is_part;
 use walks::history::element_at;
 use xml::compare::same_bytes;
 use xml::tape::view_at;
@@ -23,10 +23,11 @@ ghost use Rattle.keys.specs.KeyList.{keyNamesAt};
 ghost use Rattle.keys.specs.Version.{called, isOneValue};
 ghost use Rattle.keys.specs.Labelled.{hasKeys, Labelled};
 ghost use Rattle.keys.specs.Walks.{Walk, OfNodes};
-ghost use Rattle.timestamp.specs.Set.{setOf};
+ghost use Rattle.timestamp.specs.Set.{setOf, none};
+ghost use Rattle.timestamp.specs.Parse.{readAs};
 ghost use Rattle.timestamp.specs.Listed.{Only, listed};
 ghost use Rattle.versions.specs.Walk.{isSole, siblingsLegal};
-ghost use Rattle.versions.specs.LegalTimes.{stands, TimesRead, OwnRead};
+ghost use Rattle.versions.specs.LegalTimes.{TimesRead, OwnRead};
 ghost use Rattle.versions.specs.LegalSteps.{Ascends, ElementAsked, ElementSaid};
 
 // An element at a place, which holds the nodes lo to hi, has each key child just once, bare and with a value.
@@ -71,50 +72,34 @@ pub fn is_sole(tape: &[u32], lo: usize, hi: usize) -> bool
     v.next == hi
 }
 
-// The set may be that of a `T` in an element of the versions `times`.
-fn may_stand(set: Timestamp, times: Timestamp) -> bool
-    ensures { λ r. ⌜ ((n : ℕ) → Only n (setOf (times .words)) → r ≡ stands n (setOf (times .words)) (setOf (set .words))) ⌝ }
+// Reads the set with the text src[a..e] into `own`, which holds none; whether it may be that of a `T` in an element of the versions `times`.
+fn times_fit(src: &[u8], a: usize, e: usize, times: Timestamp, own: &mut [u64; 16]) -> bool
+    requires { ⌜ (a ≤ e) × (e ≤ length (now src)) × (length (now own) ≡ 16) × (setOf (now own) ≡ none) ⌝ }
+    ensures { λ r. ⌜ ((n : ℕ) → n ≤ 999 → Only n (setOf (times .words))
+        → TimesRead n (setOf (times .words)) (slice a e (now (src .entry))) (readAs r (now (own .exit)))) × (length (now (own .exit)) ≡ 16) ⌝ }
 {
-    if !set.within(times) {
+    if !parse_at(own, src, a, e) {
         return false;
     }
-    !set.same(times)
+    is_part(own, &times.words)
 }
 
-// The set with the text src[a..e], if it may be that of a `T` in an element of the versions `times`.
-fn times_fit(src: &[u8], a: usize, e: usize, times: Timestamp) -> Parsed
-    requires { ⌜ (a ≤ e) × (e ≤ length (now src)) ⌝ }
-    ensures { λ r. ⌜ ((n : ℕ) → n ≤ 999 → Only n (setOf (times .words)) → TimesRead n (setOf (times .words)) (slice a e (now (src .entry))) r) ⌝ }
-{
-    let read = times_at(src, a, e);
-    if !read.ok {
-        return read;
-    }
-    let set = read.stamp;
-    let ok = may_stand(set, times);
-    Parsed { ok, stamp: set }
-}
-
-// The set of the sibling p, in an element of the versions `times`: these if it is bare, or that of the `T`.
-fn own_times(src: &[u8], tape: &[u32], p: usize, times: Timestamp) -> Parsed
-    requires { ⌜ (p < nextAt (now tape) p) × Valid (now src) (now tape) p (nextAt (now tape) p) ⌝ }
+// Puts the set of the sibling p, in an element of the versions `times`, into `own`: these if it is bare, or that of the `T`; whether there is one.
+fn own_times(src: &[u8], tape: &[u32], p: usize, times: Timestamp, own: &mut [u64; 16]) -> bool
+    requires { ⌜ (p < nextAt (now tape) p) × Valid (now src) (now tape) p (nextAt (now tape) p) × (length (now own) ≡ 16) × (setOf (now own) ≡ none) ⌝ }
     ensures { λ r. ⌜ ((n hi : ℕ) (f : Forest) → n ≤ 999 → Only n (setOf (times .words)) → p < hi → Tape (now (src .entry)) (now (tape .entry)) p hi f
-        → OwnRead n (setOf (times .words)) f r) ⌝ }
+        → OwnRead n (setOf (times .words)) f (readAs r (now (own .exit)))) × (length (now (own .exit)) ≡ 16) ⌝ }
 {
     let v = view_at(tape, p);
     if v.kind != 2 {
-        return Parsed {
-            ok: v.kind == 1,
-            stamp: times,
-        };
+        let words = times.words;
+        *own = words;
+        return v.kind == 1;
     }
     if !is_sole(tape, p + 1, v.next) {
-        return Parsed {
-            ok: false,
-            stamp: times,
-        };
+        return false;
     }
-    times_fit(src, v.start, v.end, times)
+    times_fit(src, v.start, v.end, times, own)
 }
 
 // The element e, in one at the place, comes after the element `last` by its label; no element is before it if `last` is hi.
@@ -190,13 +175,22 @@ pub fn siblings_legal(
     let mut p = lo;
     let mut last = hi;
     while p < hi {
-        let own = own_times(src, tape, p, times);
-        if !own.ok {
+        let mut own = [0u64; 16];
+        if !own_times(src, tape, p, times, &mut own) {
             return false;
         }
-        let set = own.stamp;
         let e = element_at(tape, p);
-        if !element_legal(text, table, paths, place, src, tape, e, n, set) {
+        if !element_legal(
+            text,
+            table,
+            paths,
+            place,
+            src,
+            tape,
+            e,
+            n,
+            Timestamp { words: own },
+        ) {
             return false;
         }
         if !ascends(text, table, paths, place, src, tape, hi, last, e) {

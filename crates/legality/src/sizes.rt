@@ -1,5 +1,7 @@
 // The sizes of every version in one walk: what a `T` holds itself, other `T`s apart, counts for each of its versions.
 use crate::bounds::bound;
+use crate::bounds::bytes_in;
+use crate::bounds::nodes_in;
 use xml::compare::same_bytes;
 use xml::compare::text_len;
 use xml::tape::is_run;
@@ -87,7 +89,7 @@ fn raise(src: &[u8], a: usize, e: usize, nodes: &mut [u32], bytes: &mut [u32], x
     raise_span(nodes, bytes, lo, n, x, y);
 }
 
-pub(crate) fn sized(nodes: u32, bytes: u32) -> Own
+fn sized(nodes: u32, bytes: u32) -> Own
     ensures { λ r. ⌜ r ≡ owned nodes bytes ⌝ }
 {
     Own {
@@ -97,7 +99,7 @@ pub(crate) fn sized(nodes: u32, bytes: u32) -> Own
     }
 }
 
-pub(crate) fn halted() -> Own
+fn halted() -> Own
     ensures { λ r. ⌜ r .stopped ≡ true ⌝ }
 {
     Own {
@@ -255,11 +257,8 @@ pub fn all_small(src: &[u8], tape: &[u32], lo: usize, hi: usize, n: usize) -> bo
     ensures { λ r. ⌜ ((f : Forest) → Tape (now (src .entry)) (now (tape .entry)) lo hi f → r ≡ allSmall n f) ⌝ }
 {
     let most = bound(src, tape, lo, hi, 16);
-    if most.stopped {
-        return measure(src, tape, lo, hi, n);
-    }
-    if most.nodes <= 512 {
-        if most.bytes <= 16384 {
+    if nodes_in(most) <= 512 {
+        if bytes_in(most) <= 16384 {
             return true;
         }
     }

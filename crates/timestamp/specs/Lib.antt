@@ -14,10 +14,10 @@ pub mod Parse
 pub mod Reading
 pub mod Accepts
 pub mod Sound
-pub mod Ends
 pub mod Numbers
 pub mod Parses
 pub mod RunAt
+pub mod TakenText
 pub mod Place
 pub mod Narrow
 pub mod Write

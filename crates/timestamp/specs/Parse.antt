@@ -1,5 +1,6 @@
 -- What is read of a text: its numbers, if it is just their text and not empty.
 use Prim.Native.Nat.{ℕ}
+use mathlib.Core.List.{List}
 use mathlib.Core.Bool.{Bool, true, false, not, _&&_}
 use Rattle.xml.specs.Bytes.{Bytes, isEmpty, same}
 use Rattle.timestamp.specs.Times.{belongs}
@@ -26,3 +27,7 @@ pickOutcome false s = refused
 
 abbrev pub outcome : Parsed → Outcome
 outcome r = pickOutcome (r .ok) (setOf (r .stamp .words))
+
+-- a set read into words, as one answer
+abbrev pub readAs : Bool → List ℕ → Parsed
+readAs b w = record { ok = b; stamp = record { words = w } }

@@ -17,7 +17,6 @@ use Rattle.timestamp.specs.Reading.{St, st, bad, opens, closes, digitIn,
 use Rattle.timestamp.specs.Accepts.{startOf, run-steps, run-close}
 use Rattle.timestamp.specs.Sound.{steps-bad}
 use Rattle.timestamp.specs.Numbers.{Onward, stays, reads, Ended, onward-steps, drop-one}
-use Rattle.timestamp.specs.Ends.{EndsBy, read-ends}
 use Rattle.timestamp.specs.Parses.{read-parsed}
 
 -- at the place `at` the run lo to hi begins past p, and ends before the place `to`; hi is 0 where what stands there is refused
@@ -121,13 +120,12 @@ module _ (l : Bytes) (s : ℕ → Bool) (p at : ℕ) (inv : closeIn (steps (st s
   run-fits {lo} {hi} {to} (run h k b a g e x d) z = (k, b, a, g)
 
   -- at the end of the text
-  pub run-last : {lo hi to : ℕ} → RunAt l at p lo hi to → (hi ≡ 0 → ⊥) → length l ≤ to → (t : ℕ → Bool) → t ≡ joined s (between lo hi) → (accepted t ≡ parsed l) × EndsBy (hi + 1) t
+  pub run-last : {lo hi to : ℕ} → RunAt l at p lo hi to → (hi ≡ 0 → ⊥) → length l ≤ to → (t : ℕ → Bool) → t ≡ joined s (between lo hi) → accepted t ≡ parsed l
   unfolding readIn
   run-last {lo} {hi} {to} (nothing e f) z w t q = absurd (z e)
   run-last {lo} {hi} {to} (run h k b a g e x d) z w t q =
-      let r : st t (hi + 1) 0 0 ≡ closeIn (steps (st none 0 0 0) l) =
-      ap (λ (u : ℕ → Bool). st u (hi + 1) 0 0) q ∙ sym (run-close s p lo hi h k b) ∙ ap closeIn (sym (steps-end (st s p (startOf lo hi) hi) l to w)) ∙ after-run lo hi to h k b e in
-      (ap setIn r ∙ read-parsed l, read-ends l t (hi + 1) 0 0 true r refl)
+      ap setIn (ap (λ (u : ℕ → Bool). st u (hi + 1) 0 0) q ∙ sym (run-close s p lo hi h k b) ∙ ap closeIn (sym (steps-end (st s p (startOf lo hi) hi) l to w)) ∙ after-run lo hi to h k b e)
+      ∙ read-parsed l
 
   -- before a byte that is no comma
   pub run-other : {lo hi to : ℕ} → RunAt l at p lo hi to → (hi ≡ 0 → ⊥) → to < length l → (getD l to 0 ≡ 44 → ⊥) → refused ≡ parsed l
@@ -148,8 +146,3 @@ module _ (l : Bytes) (s : ℕ → Bool) (p at : ℕ) (inv : closeIn (steps (st s
       sym (ap closeIn (steps-on (st s p (startOf lo hi) hi) l to w
       ∙ ap (λ (y : St). steps y (drop (to + 1) l)) (step-comma (st s p (startOf lo hi) hi) (getD l to 0) c ∙ run-close s p lo hi h k b ∙ ap (λ (u : ℕ → Bool). st u (hi + 1) 0 0) (sym q))))
       ∙ after-run lo hi to h k b e
-
--- the answer to a text that is refused
-pub refused-so : (l : Bytes) (ok : Bool) (s : ℕ → Bool) (e : ℕ) → ok ≡ false → refused ≡ parsed l → (pickOutcome ok s ≡ parsed l) × (ok ≡ true → EndsBy e s)
-refused-so l true s e f r = clash f
-refused-so l false s e f r = (r, λ t. clash (sym t))

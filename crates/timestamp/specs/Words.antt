@@ -2,10 +2,10 @@
 use Prim.Native.Nat.{ℕ, _+_, _-_, _*_, _/_, _%_, _^_, _≤_, _<_, min}
 use mathlib.Core.Path.{_≡_, refl, sym, ap, ap₂, _∙_, fun-ext}
 use mathlib.Core.List.{List}
-use mathlib.Core.Bool.{and-false, and-true, or-assoc, or-false, or-true, Bool, true, false, not, _&&_, _||_, xor}
+use mathlib.Core.Bool.{and-false, or-assoc, or-false, or-true, Bool, true, false, not, _&&_, _||_, xor}
 use native.Mathlib.Omega.{arith}
 use native.Mathlib.Numerals.{add-one}
-use native.Mathlib.Decide.{decLt, decLe, ℕ-discrete}
+use native.Mathlib.Decide.{decLt, ℕ-discrete}
 use native.Mathlib.Nat.{one-mul, mod-eq-of-lt}
 use lib.Dec.{eqb, leb, ltb, leb·suc-suc}
 use lib.Bits.{bitAnd, bitOr, bitXor}
@@ -13,8 +13,8 @@ use lib.Pow.{pow-lt}
 use lib.ListN.{length, getD, set, length-set, replicate, getD-replicate, List·getD-eq-default}
 use lib.Seq.{getD-set-same, getD-set-other}
 use borrow.Author.Tests.{lt-ltb, le-ltb, le-leb, lt-leb, eq-eqb, ne-eqb}
-use Rattle.timestamp.specs.Bits.{bit, bit-and, bit-or, bit-xor, bit-none, bit-pow, bit-ones}
-use Rattle.timestamp.specs.Set.{setOf, none, adding, joined, between, cutAt, outside}
+use Rattle.timestamp.specs.Bits.{bit, bit-or, bit-xor, bit-none, bit-pow, bit-ones}
+use Rattle.timestamp.specs.Set.{setOf, none, adding, joined, between, outside}
 
 -- ---- a loop that fills sixteen words
 -- the first i of them are f's
@@ -231,39 +231,3 @@ stored-ones a w from to le one p = fun-ext (λ v. go v (decLt (v / 64) from) (de
         ap (λ (x : ℕ). bit x (v % 64)) (p .are (v / 64) (omega arith) r) ∙ bit-ones 64 (v % 64) ∙ lt-ltb (v % 64) 64 (omega arith)
         ∙ sym (ap (_||_ (setOf a v)) (rw (le-leb (from * 64) v (omega arith), le-leb v (to * 64 - 1) (omega arith))) ∙ or-true (setOf a v))
     go v (no q) (no r) = other v (p .above (v / 64) (omega arith)) (rw (lt-leb v (to * 64 - 1) (omega arith)) (and-false (leb (from * 64) v)))
-
--- those after word k set to 0
-pub stored-zeros : (a w : List ℕ) (k : ℕ) → Stored a (k + 1) 16 0 w → setOf w ≡ cutAt (k * 64 + 63) (setOf a)
-unfolding setOf
-stored-zeros a w k p = fun-ext (λ v. go v (decLt k (v / 64)) (decLt (v / 64) 16))
-  where
-    out : (v : ℕ) → k < v / 64 → setOf w v ≡ false → setOf w v ≡ (setOf a v && leb v (k * 64 + 63))
-    out v q e = e ∙ sym (ap (_&&_ (setOf a v)) (lt-leb v (k * 64 + 63) (omega arith)) ∙ and-false (setOf a v))
-
-    go : (v : ℕ) → Dec (k < v / 64) → Dec (v / 64 < 16) → setOf w v ≡ (setOf a v && leb v (k * 64 + 63))
-    go v (yes q) (yes r) = out v q (ap (λ (x : ℕ). bit x (v % 64)) (p .are (v / 64) (omega arith) r) ∙ bit-none (v % 64))
-    go v (yes q) (no r) = out v q (past w (p .size) v (omega arith))
-    go v (no q) d =
-        ap (λ (x : ℕ). bit x (v % 64)) (p .below (v / 64) (omega arith))
-        ∙ sym (ap (_&&_ (setOf a v)) (le-leb v (k * 64 + 63) (omega arith)) ∙ and-true (setOf a v))
-
--- the word of i masked, and the words after it set to 0
-pub cut-set : (a : List ℕ) (i : ℕ) → length a ≡ 16 → i < 1024
-    → cutAt (i / 64 * 64 + 63) (setOf (set a (i / 64) (bitAnd (getD a (i / 64) 0) (maskAt (i + 1) (i / 64))))) ≡ cutAt i (setOf a)
-unfolding setOf
-cut-set a i la h = fun-ext (λ v. go v (ℕ-discrete (v / 64) (i / 64)))
-  where
-    word : ℕ
-    word = bitAnd (getD a (i / 64) 0) (maskAt (i + 1) (i / 64))
-
-    same : (v : ℕ) → (v / 64 ≡ i / 64 → ⊥) → Dec (v ≤ i) → leb v (i / 64 * 64 + 63) ≡ leb v i
-    same v n (yes q) = le-leb v (i / 64 * 64 + 63) (omega arith) ∙ sym (le-leb v i q)
-    same v n (no q) = lt-leb v (i / 64 * 64 + 63) (omega arith) ∙ sym (lt-leb v i (omega arith))
-
-    go : (v : ℕ) → Dec (v / 64 ≡ i / 64) → (setOf (set a (i / 64) word) v && leb v (i / 64 * 64 + 63)) ≡ (setOf a v && leb v i)
-    go v (yes e) =
-        ap (_&&_ (setOf (set a (i / 64) word) v)) (le-leb v (i / 64 * 64 + 63) (omega arith)) ∙ and-true (setOf (set a (i / 64) word) v)
-        ∙ ap (λ (x : ℕ). bit x (v % 64)) (ap (λ (n : ℕ). getD (set a (i / 64) word) n 0) e ∙ getD-set-same a (i / 64) word 0 (omega arith))
-        ∙ ap (λ (n : ℕ). bit (bitAnd (getD a n 0) (maskAt (i + 1) n)) (v % 64)) (sym e)
-        ∙ bit-and _ _ _ ∙ ap (_&&_ (setOf a v)) (mask-bit (i + 1) v ∙ ltb-up v i)
-    go v (no n) = ap₂ _&&_ (ap (λ (x : ℕ). bit x (v % 64)) (getD-set-other a (i / 64) (v / 64) word 0 n)) (same v n (decLe v i))

@@ -4,13 +4,13 @@ pub mod text;
 pub mod write;
 
 ghost use mathlib.Core.Path.{_≡_};
-ghost use mathlib.Core.Bool.{true};
+ghost use mathlib.Core.Bool.{not, _&&_};
 ghost use Prim.Native.Nat.{_+_, _-_, _*_, _/_, _^_, _<_, _≤_};
 ghost use lib.ListN.{length};
-ghost use lib.Bits.{bitAnd};
+ghost use lib.Bits.{bitAnd, bitXor};
 ghost use lib.Count.{trailingZeros};
-ghost use Rattle.timestamp.specs.Words.{Stored};
-ghost use Rattle.timestamp.specs.Taken.{Ranges};
+ghost use Rattle.timestamp.specs.Words.{maskAt, Stored};
+ghost use Rattle.timestamp.specs.Taken.{TakenWord, Taken};
 ghost use Rattle.timestamp.specs.Set.{setOf, none, upTo, between, adding, cutAt, joined, without, outside, sameSet, isNone, subset, firstIn};
 
 pub struct Timestamp {
@@ -53,6 +53,13 @@ fn common(x: u64, w: u64) -> u64
     ensures { λ r. ⌜ (r ≡ bitAnd x w) × (w < 2 ^ 64) ⌝ }
 {
     x & w
+}
+
+// The bits that one of two words has alone.
+fn differing(x: u64, w: u64) -> u64
+    ensures { λ r. ⌜ (r ≡ bitXor x w) × (x < 2 ^ 64) × (w < 2 ^ 64) ⌝ }
+{
+    x ^ w
 }
 
 // The number v put into the words of a set.
@@ -114,7 +121,7 @@ fn fill(words: &mut [u64; 16], lo: usize, hi: usize)
 }
 
 // The least member in the words from k on, or 1024 where there is none.
-pub fn first_in(words: &[u64; 16], k: usize) -> usize
+fn first_in(words: &[u64; 16], k: usize) -> usize
     requires { ⌜ (k ≤ 16) × (length (now words) ≡ 16) ⌝ }
     ensures { λ r. ⌜ r ≡ firstIn (1024 - k * 64) (setOf (now (words .entry))) (k * 64) ⌝ }
 {
@@ -173,20 +180,6 @@ fn gap_in(words: &[u64; 16], v: usize) -> usize
     }
 }
 
-// The words' set cut at i; whether that leaves it as it was. Words with no number above i are not touched.
-pub fn cut_words(words: &mut [u64; 16], i: usize) -> bool
-    requires { ⌜ (i < 1023) × (length (now words) ≡ 16) ⌝ }
-    ensures { λ r. ⌜ (setOf (now (words .exit)) ≡ cutAt i (setOf (now (words .entry)))) × (r ≡ sameSet (setOf (now (words .exit))) (setOf (now (words .entry)))) × (length (now (words .exit)) ≡ 16) ⌝ }
-{
-    if next_in(words, i + 1) == 1024 {
-        return true;
-    }
-    let k = i / 64;
-    words[k] = words[k] & low_to(i % 64);
-    store(words, k + 1, 16, 0);
-    false
-}
-
 // Whether the words hold no number.
 pub fn is_none(words: &[u64; 16]) -> bool
     requires { ⌜ length (now words) ≡ 16 ⌝ }
@@ -195,25 +188,72 @@ pub fn is_none(words: &[u64; 16]) -> bool
     first_in(words, 0) == 1024
 }
 
-// Takes the members of `set`, which are numbers from lo to before hi, out of `left`; false where `left` lacks one of them, and then it is of no use.
-// Only the words that can have some of them are touched.
-pub fn take(left: &mut [u64; 16], set: &[u64; 16], lo: usize, hi: usize) -> bool
-    requires { ⌜ (length (now left) ≡ 16) × (length (now set) ≡ 16) × (hi ≤ 1024) × Ranges lo hi (setOf (now set)) ⌝ }
-    ensures { λ r. ⌜ (r ≡ subset (setOf (now (set .entry))) (setOf (now (left .entry))))
-        × (r ≡ true → setOf (now (left .exit)) ≡ without (setOf (now (left .entry))) (setOf (now (set .entry))))
-        × (length (now (left .exit)) ≡ 16) ⌝ }
+// The bits of the word k that stand for numbers below n.
+fn below(n: usize, k: usize) -> u64
+    requires { ⌜ k < 16 ⌝ }
+    ensures { λ r. ⌜ r ≡ maskAt n k ⌝ }
 {
-    let mut lack = 0u64;
+    if n <= k * 64 {
+        return 0;
+    }
+    if k * 64 + 64 <= n {
+        return 0xffff_ffff_ffff_ffff;
+    }
+    low(n - k * 64)
+}
+
+// Takes the bits of w out of the word k; whether it had all of them.
+fn take_word(left: &mut [u64; 16], k: usize, w: u64) -> bool
+    requires { ⌜ (k < 16) × (length (now left) ≡ 16) ⌝ }
+    ensures { λ r. ⌜ TakenWord (now (left .entry)) k w (now (left .exit)) r ⌝ }
+{
+    let x = left[k] ^ w;
+    left[k] = x;
+    common(x, w) == 0
+}
+
+// Takes the numbers lo to hi, which may stand in several words, out of the words of a set; whether it had all of them.
+fn take_words(left: &mut [u64; 16], lo: usize, hi: usize) -> bool
+    requires { ⌜ (lo ≤ hi) × (hi < 1024) × (length (now left) ≡ 16) ⌝ }
+    ensures { λ r. ⌜ Taken (now (left .entry)) (between lo hi) (now (left .exit)) r ⌝ }
+{
     let mut k = lo / 64;
-    let to = (hi + 63) / 64;
-    while k < to {
-        let w = set[k];
-        let x = left[k] ^ w;
-        lack = lack | common(x, w);
-        left[k] = x;
+    while k <= hi / 64 {
+        if !take_word(left, k, below(hi + 1, k) ^ below(lo, k)) {
+            return false;
+        }
         k += 1;
     }
-    lack == 0
+    true
+}
+
+// Takes the numbers lo to hi out of the words of a set; whether it had all of them. If not, the words are of no use then.
+fn take_run(left: &mut [u64; 16], lo: usize, hi: usize) -> bool
+    requires { ⌜ (lo ≤ hi) × (hi < 1024) × (length (now left) ≡ 16) ⌝ }
+    ensures { λ r. ⌜ Taken (now (left .entry)) (between lo hi) (now (left .exit)) r ⌝ }
+{
+    if lo / 64 == hi / 64 {
+        return take_word(left, lo / 64, low_to(hi % 64) ^ low(lo % 64));
+    }
+    take_words(left, lo, hi)
+}
+
+// Every number of the first words' set is one of the second's, and the second has more.
+pub fn is_part(a: &[u64; 16], b: &[u64; 16]) -> bool
+    requires { ⌜ (length (now a) ≡ 16) × (length (now b) ≡ 16) ⌝ }
+    ensures { λ r. ⌜ r ≡ (subset (setOf (now (a .entry))) (setOf (now (b .entry))) && not (sameSet (setOf (now (a .entry))) (setOf (now (b .entry))))) ⌝ }
+{
+    let mut lack = 0u64;
+    let mut more = 0u64;
+    for k in 0..16 {
+        let x = differing(b[k], a[k]);
+        lack = lack | common(x, a[k]);
+        more = more | x;
+    }
+    if lack != 0 {
+        return false;
+    }
+    more != 0
 }
 
 impl Timestamp {

@@ -1,19 +1,20 @@
 // A timestamp's text read: whether a number belongs to it, and the set that it is the text of.
 use crate::Timestamp;
 use crate::fill;
+use crate::take_run;
 ghost use mathlib.Core.Path.{_≡_};
 ghost use mathlib.Core.Bool.{true, false};
 ghost use Prim.Native.Nat.{_+_, _-_, _*_, _<_, _≤_, min};
 ghost use lib.ListN.{getD, length};
 ghost use Rattle.timestamp.specs.Times.{belongs as isIn};
 ghost use Rattle.timestamp.specs.Belongs.{dashed, stepped, holds as inSpan};
-ghost use Rattle.timestamp.specs.Set.{setOf};
+ghost use Rattle.timestamp.specs.Set.{setOf, none};
 ghost use Rattle.timestamp.specs.Parse.{parsed, pickOutcome, outcome};
 ghost use Rattle.timestamp.specs.Numbers.{Onward, Ended, isFirst};
 ghost use Rattle.timestamp.specs.RunAt.{RunAt};
 ghost use Rattle.timestamp.specs.Place.{IsSet};
 ghost use Rattle.timestamp.specs.Narrow.{NextStart, Bracket, Narrowed};
-ghost use Rattle.timestamp.specs.Ends.{EndsBy};
+ghost use Rattle.timestamp.specs.TakenText.{earliestOf, TakesText};
 ghost use Rattle.xml.specs.Bytes.{isDigit};
 
 // What is read of a run: the dashes in it (2 for more), the number before the last of them, and the number so far (1000 for more).
@@ -256,13 +257,6 @@ pub struct Parsed {
     pub stamp: Timestamp,
 }
 
-// A text's set, where it is the text of one, and a number above all of its members.
-pub struct Scanned {
-    pub ok: bool,
-    pub end: usize,
-    pub stamp: Timestamp,
-}
-
 // A run that a text has at a place: its first and its last number, and the place after it; hi is 0 where none past the bound is read there.
 pub struct Run {
     pub lo: usize,
@@ -347,43 +341,27 @@ pub fn run_at(text: &[u8], at: usize, p: usize) -> Run
     }
 }
 
-// The answer to a text that is refused.
-fn refused() -> Scanned
-    ensures { λ r. ⌜ r .ok ≡ false ⌝ }
-{
-    Scanned {
-        ok: false,
-        end: 0,
-        stamp: Timestamp::empty(),
-    }
-}
-
-// The set with this text, and a number above all of its members; refused where it is the text of no set of numbers 1 to 999, or of the empty one.
+// Reads the set with this text into words that hold none; refused where it is the text of no set of numbers 1 to 999, or of the empty one.
 // A turn of the loop for each run.
-pub fn scan(text: &[u8]) -> Scanned
-    ensures { λ r. ⌜ (pickOutcome (r .ok) (setOf (r .stamp .words)) ≡ parsed (now (text .entry)))
-        × (r .ok ≡ true → EndsBy (r .end) (setOf (r .stamp .words))) ⌝ }
+pub fn parse_into(words: &mut [u64; 16], text: &[u8]) -> bool
+    requires { ⌜ (length (now words) ≡ 16) × (setOf (now words) ≡ none) ⌝ }
+    ensures { λ r. ⌜ (pickOutcome r (setOf (now (words .exit))) ≡ parsed (now (text .entry))) × (length (now (words .exit)) ≡ 16) ⌝ }
 {
-    let mut words = [0u64; 16];
     let mut p = 0;
     let mut at = 0;
     loop {
         let run = run_at(text, at, p);
         if run.hi == 0 {
-            return refused();
+            return false;
         }
-        fill(&mut words, run.lo, run.hi);
+        fill(words, run.lo, run.hi);
         p = run.hi + 1;
         at = run.to;
         if text.len() <= at {
-            return Scanned {
-                ok: true,
-                end: p,
-                stamp: Timestamp { words: words },
-            };
+            return true;
         }
         if text[at] != b',' {
-            return refused();
+            return false;
         }
         at += 1;
     }
@@ -393,11 +371,51 @@ pub fn scan(text: &[u8]) -> Scanned
 pub fn parse(text: &[u8]) -> Parsed
     ensures { λ r. ⌜ outcome r ≡ parsed (now (text .entry)) ⌝ }
 {
-    let x = scan(text);
-    let stamp = x.stamp;
+    let mut words = [0u64; 16];
+    let ok = parse_into(&mut words, text);
     Parsed {
-        ok: x.ok,
-        stamp: stamp,
+        ok,
+        stamp: Timestamp { words },
+    }
+}
+
+// The first number read, where `first` is 0 as long as none is.
+fn earliest(first: usize, lo: usize) -> usize
+    ensures { λ r. ⌜ r ≡ earliestOf first lo ⌝ }
+{
+    if first == 0 {
+        return lo;
+    }
+    first
+}
+
+// Takes the set with this text out of the words' set, run by run, and answers its first number; 0 where it is the text of no set, or a number
+// was not there, and then the words are of no use.
+pub fn take_text(left: &mut [u64; 16], text: &[u8]) -> usize
+    requires { ⌜ length (now left) ≡ 16 ⌝ }
+    ensures { λ r. ⌜ TakesText (now (text .entry)) (now (left .entry)) (now (left .exit)) r ⌝ }
+{
+    let mut first = 0;
+    let mut bound = 0;
+    let mut at = 0;
+    loop {
+        let run = run_at(text, at, bound);
+        if run.hi == 0 {
+            return 0;
+        }
+        if !take_run(left, run.lo, run.hi) {
+            return 0;
+        }
+        first = earliest(first, run.lo);
+        bound = run.hi + 1;
+        at = run.to;
+        if text.len() <= at {
+            return first;
+        }
+        if text[at] != b',' {
+            return 0;
+        }
+        at += 1;
     }
 }
 

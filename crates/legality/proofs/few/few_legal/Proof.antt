@@ -4,6 +4,8 @@ use Prim.Native.Nat.{_-_, _%_, _≤_}
 use native.Mathlib.Omega.{arith}
 use mathlib.Core.Path.{_≡_, refl, sym, _∙_, ap}
 use mathlib.Core.Bool.{true}
+use mathlib.Core.Bool.{true}
+use mathlib.Core.Bool.{true}
 use borrow.Author.Needs.{needs}
 use lib.ListN.{length}
 use Rattle.xml.specs.Forest.{Forest, end}
@@ -11,23 +13,14 @@ use Rattle.xml.specs.Tape.{Tape, Valid, headAt, at-end}
 use Rattle.xml.specs.TapeLaws.{Front, bytesAt, front, split, tape-join}
 use Rattle.xml.specs.SameTapes.{not-true, not-false}
 use Rattle.timestamp.specs.Set.{setOf, none, without}
-use Rattle.timestamp.specs.Ends.{EndsBy}
 use Rattle.timestamp.specs.Listed.{Only}
-use Rattle.timestamp.specs.Parse.{accepted, parsed}
-use Rattle.timestamp.specs.Parses.{text-first, outcome-ok, outcome-not}
-use Rattle.versions.specs.Branches.{judged, follows, follows-early, Way, first, way-start, way-few, way-done, way-other, way-refused, way-not}
+use Rattle.timestamp.specs.Parses.{text-first}
+use Rattle.timestamp.specs.TakenText.{TakesText}
+use Rattle.versions.specs.Branches.{judged, follows, Way, first, way-start, way-few, way-done, way-other}
 use Rattle.versions.specs.Marks.{way-illegal, way-legal}
-use Rattle.legality.specs.Left.{Within, first-ranges, within-read, within-less, none-taken, all-taken, more-taken, left-follow, way-lacking}
+use Rattle.legality.specs.Left.{Within, Took, took, within-read, within-less, none-taken, all-taken, more-taken, left-follow, way-untaken}
 use Rattle.legality.proofs.few.few_legal.Statement.{statement}
 use Rattle.legality.proofs.few.few_legal.Tie as tie
-use Rattle.legality.proofs.few.few_legal.Reads as reads
-use Rattle.legality.proofs.few.few_legal.Lts as lts
-use Rattle.legality.proofs.few.is_new.Reads as is-new-reads
-use Rattle.legality.proofs.times.scan_at.Reads as scan-at-reads
-use Rattle.timestamp.proofs.first_in.Reads as first-in-reads
-use Rattle.timestamp.proofs.is_none.Reads as is-none-reads
-use Rattle.timestamp.proofs.take.Reads as take-reads
-use Rattle.xml.proofs.tape.view_at.Reads as view-at-reads
 
 abbrev Inv-loop : tie.InvT-loop
 Inv-loop src tape lo hi n left₀ p₀ count₀ first₀ left p count first = (count ≤ first)
@@ -44,25 +37,23 @@ here c = front (c .before .loop .inv .3 .tape) (c .loop-test .taken)
 kind : (c : tie.Else1 Inv-loop μ-loop) → headAt (c .before .before .before .before .before .before .before .before .args .tape .now) (c .before .before .before .before .loop .p) % 4 ≡ 2
 kind c = rw (c .before .before .view-at .ensures) at (c .if1 .left)
 
--- its text is that of a set
-accept : (c : tie.Else2 Inv-loop μ-loop) → parsed (bytesAt (c .before .before .before .before .before .before .before .before .before .before .args .src .now) (c .before .before .before .before .before .before .before .before .before .before .args .tape .now) (c .before .before .before .before .before .before .loop .p)) ≡ accepted (setOf (c .before .scan-at .result .stamp .words))
-accept c = outcome-ok (c .before .scan-at .result .ok) _ _ (rw (c .before .before .before .before .view-at .ensures) at (c .before .scan-at .ensures .0)) (not-false _ (c .if2 .left))
+-- its text's set is taken from what is left, if it can be
+taking : (c : tie.After-take-at Inv-loop μ-loop) → TakesText (bytesAt (c .before .before .before .before .before .before .before .before .before .before .args .src .now) (c .before .before .before .before .before .before .before .before .before .before .args .tape .now) (c .before .before .before .before .before .before .loop .p)) (c .before .before .before .before .before .before .loop .left) (c .take-at .last .0) (c .take-at .result)
+taking c = rw (c .before .before .before .before .view-at .ensures) at (c .take-at .ensures)
 
--- whose numbers are below its end
-ends : (c : tie.Else2 Inv-loop μ-loop) → EndsBy (c .before .scan-at .result .end) (setOf (c .before .scan-at .result .stamp .words))
-ends c = c .before .scan-at .ensures .1 (not-false _ (c .if2 .left))
+-- it is, and begins after the last one
+taken : (c : tie.Else2 Inv-loop μ-loop) → Took (setOf (c .before .before .before .before .before .before .before .loop .left)) (bytesAt (c .before .before .before .before .before .before .before .before .before .before .before .args .src .now) (c .before .before .before .before .before .before .before .before .before .before .before .args .tape .now) (c .before .before .before .before .before .before .before .loop .p)) (c .before .take-at .result)
+taken c = took _ _ _ _ (taking (c .before) .0) (c .if2 .left)
 
--- its versions were left
-taken : (c : tie.Else4 Inv-loop μ-loop) → Within (setOf (c .before .before .before .before .before .before .before .before .before .before .scan-at .result .stamp .words)) (setOf (c .before .before .before .before .before .before .before .before .before .before .before .before .before .before .before .loop .left))
-taken c = within-read _ _ _ (accept (c .before .before .before .before .before .before .before .before .before)) (sym (c .before .take .ensures .0) ∙ not-false _ (c .if4 .left))
+had : (c : tie.Else2 Inv-loop μ-loop) → Within (taken c .set) (setOf (c .before .before .before .before .before .before .before .loop .left))
+had c = within-read _ _ _ (taken c .is) (taken c .had)
 
 -- so it may come after those before
-may : (c : tie.Else4 Inv-loop μ-loop) → Only (c .before .before .before .before .before .before .before .before .before .before .before .before .before .before .before .before .before .before .before .args .n) (setOf (c .before .before .before .before .before .before .before .before .before .before .before .before .before .before .before .before .before .before .before .args .times .words))
-    → follows (c .before .before .before .before .before .before .before .before .before .before .before .before .before .before .before .before .before .before .before .args .n) (without (setOf (c .before .before .before .before .before .before .before .before .before .before .before .before .before .before .before .before .before .before .before .args .times .words)) (setOf (c .before .before .before .before .before .before .before .before .before .before .before .before .before .before .before .loop .left))) (c .before .before .before .before .before .before .before .before .before .before .before .before .before .before .before .loop .first) (setOf (c .before .before .before .before .before .before .before .before .before .before .scan-at .result .stamp .words)) ≡ true
-may c o = left-follow _ _ _ _ _ o (c .before .before .before .before .before .before .before .before .before .before .before .before .before .before .before .loop .inv .5) (taken c) (rw (c .before .before .before .before .before .before .first-in .ensures) at (c .before .before .before .before .before .if3 .left))
+may : (c : tie.Else2 Inv-loop μ-loop) → Only (c .before .before .before .before .before .before .before .before .before .before .before .args .n) (setOf (c .before .before .before .before .before .before .before .before .before .before .before .args .times .words)) → follows (c .before .before .before .before .before .before .before .before .before .before .before .args .n) (without (setOf (c .before .before .before .before .before .before .before .before .before .before .before .args .times .words)) (setOf (c .before .before .before .before .before .before .before .loop .left))) (c .before .before .before .before .before .before .before .loop .first) (taken c .set) ≡ true
+may c o = left-follow _ _ _ _ _ o (c .before .before .before .before .before .before .before .loop .inv .5) (had c) (omega (arith, c .if2 .left, taken c .first))
 
 loop-holds : tie.Need-loop-holds Inv-loop μ-loop
-loop-holds c = (omega arith, λ f t o. way-start t (none-taken (setOf (c .before .before .before .args .times .words))), record { forest = end; tape = at-end refl }, (c .before .before .before .pre), search needs, λ v q. q)
+loop-holds c = (omega arith, λ f t o. way-start t (none-taken (setOf (c .before .before .before .args .times .words))), record { forest = end; tape = at-end refl }, c .before .before .before .pre, search needs, λ v q. q)
 
 view-at-requires : tie.Need-view-at-requires Inv-loop μ-loop
 view-at-requires c κs = here c .held
@@ -70,59 +61,49 @@ view-at-requires c κs = here c .held
 returns : tie.Need-returns Inv-loop μ-loop
 returns c f t o = sym (way-other (c .before .before .before .before .loop .inv .1 f t o) (c .before .before .before .loop-test .taken) (rw (c .before .before .view-at .ensures) at (c .if1 .taken)))
 
-scan-at-requires : tie.Need-scan-at-requires Inv-loop μ-loop
-scan-at-requires c κs = rw (c .before .before .view-at .ensures) (omega arith, here (c .before .before .before) .within)
+take-at-requires : tie.Need-take-at-requires Inv-loop μ-loop
+take-at-requires c κs = rw (c .before .before .before .view-at .ensures) (omega arith, here (c .before .before .before .before) .within, c .before .before .before .before .before .loop .inv .4)
 
 returns-2 : tie.Need-returns-2 Inv-loop μ-loop
-returns-2 c f t o = sym (way-refused (c .before .before .before .before .before .before .loop .inv .1 f t o) (c .before .before .before .before .before .loop-test .taken) (kind (c .before .before)) (outcome-not (c .before .scan-at .result .ok) _ _ (rw (c .before .before .before .before .view-at .ensures) at (c .before .scan-at .ensures .0)) (not-true _ (c .if2 .taken))))
-
-first-in-requires : tie.Need-first-in-requires Inv-loop μ-loop
-first-in-requires c κs = search needs
-
-returns-3 : tie.Need-returns-3 Inv-loop μ-loop
-returns-3 c f t o = sym (way-not (c .before .before .before .before .before .before .before .before .before .before .loop .inv .1 f t o) (c .before .before .before .before .before .before .before .before .before .loop-test .taken) (kind (c .before .before .before .before .before .before)) (setOf (c .before .before .before .before .before .scan-at .result .stamp .words)) (accept (c .before .before .before .before)) (follows-early _ _ _ _ (rw (c .before .first-in .ensures) at (c .if3 .taken))))
-
-take-requires : tie.Need-take-requires Inv-loop μ-loop
-take-requires c κs = (c .before .before .before .before .before .before .before .before .before .before .before .before .before .loop .inv .4, search needs, omega (arith, ends (c .before .before .before .before .before .before .before) .0), rw (c .before .before .before .before .first-in .ensures) (first-ranges _ _ (ends (c .before .before .before .before .before .before .before))))
-
-returns-4 : tie.Need-returns-4 Inv-loop μ-loop
-returns-4 c f t o = sym (way-lacking _ _ (c .before .before .before .before .before .before .before .before .before .before .before .before .before .before .before .loop .inv .1 f t o) (c .before .before .before .before .before .before .before .before .before .before .before .before .before .before .loop-test .taken) (kind (c .before .before .before .before .before .before .before .before .before .before .before)) (setOf (c .before .before .before .before .before .before .before .before .before .before .scan-at .result .stamp .words)) (accept (c .before .before .before .before .before .before .before .before .before)) (sym (c .before .take .ensures .0) ∙ not-true _ (c .if4 .taken)))
+returns-2 c f t o = sym (way-untaken (setOf (c .before .before .before .before .before .before .before .before .before .before .before .args .times .words)) (setOf (c .before .before .before .before .before .before .before .loop .left)) (c .before .before .before .before .before .before .before .loop .inv .1 f t o) (c .before .before .before .before .before .before .loop-test .taken) (kind (c .before .before .before)) (omega (arith, c .if2 .taken, taking (c .before) .0)))
 
 add-is-new : tie.Need-add-is-new Inv-loop μ-loop
-add-is-new c = omega (arith, here (c .before .before .before .before .before .before .before .before .before .before .before .before .before .before) .held)
+add-is-new c = omega (arith, here (c .before .before .before .before .before .before) .held)
 
 is-new-requires : tie.Need-is-new-requires Inv-loop μ-loop
-is-new-requires c κs = rw (c .before .before .before .before .before .before .before .before .before .before .before .before .before .view-at .ensures) (c .before .before .before .before .before .before .before .before .before .before .before .before .before .before .before .loop .inv .2, record { forest = _; tape = first (c .before .before .before .before .before .before .before .before .before .before .before .before .before .before .before .loop .inv .3 .tape) (c .before .before .before .before .before .before .before .before .before .before .before .before .before .before .loop-test .taken) .inside })
+is-new-requires c κs = rw (c .before .before .before .before .before .view-at .ensures) (c .before .before .before .before .before .before .before .loop .inv .2, record { forest = _; tape = first (c .before .before .before .before .before .before .before .loop .inv .3 .tape) (c .before .before .before .before .before .before .loop-test .taken) .inside })
 
-returns-5 : tie.Need-returns-5 Inv-loop μ-loop
-returns-5 c f t o = sym (way-illegal (c .before .before .before .before .before .before .before .before .before .before .before .before .before .before .before .before .before .loop .inv .1 f t o) (c .before .before .before .before .before .before .before .before .before .before .before .before .before .before .before .before .loop-test .taken) (kind (c .before .before .before .before .before .before .before .before .before .before .before .before .before)) (setOf (c .before .before .before .before .before .before .before .before .before .before .before .before .scan-at .result .stamp .words)) (accept (c .before .before .before .before .before .before .before .before .before .before .before)) (may (c .before .before) o) (λ d g a b. sym (not-true _ (c .if5 .taken)) ∙ (rw (c .before .before .before .before .before .before .before .before .before .before .before .before .before .before .before .view-at .ensures) at (c .before .is-new .ensures)) d g a b))
+returns-3 : tie.Need-returns-3 Inv-loop μ-loop
+returns-3 c f t o = let k = taken (c .before .before) in sym (way-illegal (c .before .before .before .before .before .before .before .before .before .loop .inv .1 f t o) (c .before .before .before .before .before .before .before .before .loop-test .taken) (kind (c .before .before .before .before .before)) (k .set) (k .is) (may (c .before .before) o) (λ d g a b. sym (not-true _ (c .if3 .taken)) ∙ (rw (c .before .before .before .before .before .before .before .view-at .ensures) at (c .before .is-new .ensures)) d g a b))
 
 add-count : tie.Need-add-count Inv-loop μ-loop
-add-count c = omega (arith, c .before .before .before .before .before .before .before .if3 .left, c .before .before .before .before .before .before .before .before .first-in .ensures, text-first _ _ (accept (c .before .before .before .before .before .before .before .before .before .before .before)), c .before .before .before .before .before .before .before .before .before .before .before .before .before .before .before .before .before .loop .inv .0)
+add-count c = let k = taken (c .before .before) in omega (arith, c .before .before .if2 .left, k .first, text-first _ _ (k .is), c .before .before .before .before .before .before .before .before .before .loop .inv .0)
 
 loop-less : tie.Need-loop-less Inv-loop μ-loop
-loop-less c = let s = here (c .before .before .before .before .before .before .before .before .before .before .before .before .before .before .before .before) in rw (c .before .before .before .before .before .before .before .before .before .before .before .before .before .before .before .view-at .ensures) (omega (arith, s .forward, s .inside))
+loop-less c = let s = here (c .before .before .before .before .before .before .before .before) in rw (c .before .before .before .before .before .before .before .view-at .ensures) (omega (arith, s .forward, s .inside))
 
 loop-again : tie.Need-loop-again Inv-loop μ-loop
-loop-again c = let w = split (c .before .before .before .before .before .before .before .before .before .before .before .before .before .before .before .before .before .loop .inv .3 .tape) (c .before .before .before .before .before .before .before .before .before .before .before .before .before .before .before .before .loop-test .taken) in
-    let e = c .before .before .before .take .ensures .1 (not-false _ (c .before .before .if4 .left)) in
-    rw (c .before .before .before .before .before .before .before .before .before .before .before .before .before .before .before .view-at .ensures) (
-      omega (arith, c .before .before .before .before .before .before .before .if3 .left, c .before .before .before .before .before .before .before .before .before .before .before .before .before .before .before .before .before .loop .inv .0),
-      λ f t o. way-legal (c .before .before .before .before .before .before .before .before .before .before .before .before .before .before .before .before .before .loop .inv .1 f t o) (c .before .before .before .before .before .before .before .before .before .before .before .before .before .before .before .before .loop-test .taken) (kind (c .before .before .before .before .before .before .before .before .before .before .before .before .before)) (setOf (c .before .before .before .before .before .before .before .before .before .before .before .before .scan-at .result .stamp .words)) (accept (c .before .before .before .before .before .before .before .before .before .before .before)) (may (c .before .before) o) (λ d g a b. sym (not-false _ (c .if5 .left)) ∙ (rw (c .before .before .before .before .before .before .before .before .before .before .before .before .before .before .before .view-at .ensures) at (c .before .is-new .ensures)) d g a b) (ap (without (setOf (c .before .before .before .before .before .before .before .before .before .before .before .before .before .before .before .before .before .before .before .before .before .args .times .words))) e ∙ more-taken _ _ _ (c .before .before .before .before .before .before .before .before .before .before .before .before .before .before .before .before .before .loop .inv .5) (taken (c .before .before))) (c .before .before .before .before .before .before .before .before .first-in .ensures),
-      record { forest = _; tape = tape-join (c .before .before .before .before .before .before .before .before .before .before .before .before .before .before .before .before .before .loop .inv .2 .tape) (w .here) },
+loop-again c =
+    let w = split (c .before .before .before .before .before .before .before .before .before .loop .inv .3 .tape) (c .before .before .before .before .before .before .before .before .loop-test .taken) in
+    let k = taken (c .before .before) in
+    let e = taking (c .before .before .before) .1 (k .set) (k .is) (k .had) in
+    rw (c .before .before .before .before .before .before .before .view-at .ensures) (
+      omega (arith, c .before .before .if2 .left, c .before .before .before .before .before .before .before .before .before .loop .inv .0),
+      λ f t o. way-legal (c .before .before .before .before .before .before .before .before .before .loop .inv .1 f t o) (c .before .before .before .before .before .before .before .before .loop-test .taken) (kind (c .before .before .before .before .before)) (k .set) (k .is) (may (c .before .before) o) (λ d g a b. sym (not-false _ (c .if3 .left)) ∙ (rw (c .before .before .before .before .before .before .before .view-at .ensures) at (c .before .is-new .ensures)) d g a b) (ap (without (setOf (c .before .before .before .before .before .before .before .before .before .before .before .before .before .args .times .words))) e ∙ more-taken _ _ _ (c .before .before .before .before .before .before .before .before .before .loop .inv .5) (had (c .before .before))) (k .first),
+      record { forest = _; tape = tape-join (c .before .before .before .before .before .before .before .before .before .loop .inv .2 .tape) (w .here) },
       record { forest = _; tape = w .after },
-      c .before .before .before .take .ensures .2,
-      within-less (setOf (c .before .before .before .before .before .before .before .before .before .before .before .before .scan-at .result .stamp .words)) _ _ _ e (c .before .before .before .before .before .before .before .before .before .before .before .before .before .before .before .before .before .loop .inv .5),
+      taking (c .before .before .before) .2,
+      within-less (k .set) _ _ _ e (c .before .before .before .before .before .before .before .before .before .loop .inv .5),
     )
 
-returns-6 : tie.Need-returns-6 Inv-loop μ-loop
-returns-6 c f t o = sym (way-few (c .before .before .loop .inv .1 f t o) (c .before .loop-test .left) (c .if6 .taken))
+returns-4 : tie.Need-returns-4 Inv-loop μ-loop
+returns-4 c f t o = sym (way-few (c .before .before .loop .inv .1 f t o) (c .before .loop-test .left) (c .if4 .taken))
 
 is-none-requires : tie.Need-is-none-requires Inv-loop μ-loop
 is-none-requires c κs = c .before .before .before .loop .inv .4
 
-returns-7 : tie.Need-returns-7 Inv-loop μ-loop
-returns-7 c f t o = c .is-none .ensures ∙ sym (all-taken _ _ (c .before .before .before .before .loop .inv .5)) ∙ sym (way-done (c .before .before .before .before .loop .inv .1 f t o) (c .before .before .before .loop-test .left) (c .before .before .if6 .left))
+returns-5 : tie.Need-returns-5 Inv-loop μ-loop
+returns-5 c f t o = c .is-none .ensures ∙ sym (all-taken _ _ (c .before .before .before .before .loop .inv .5)) ∙ sym (way-done (c .before .before .before .before .loop .inv .1 f t o) (c .before .before .before .loop-test .left) (c .before .before .if4 .left))
 
 pub few-legal-spec : {M : Type 1} → statement M
 few-legal-spec =
@@ -133,18 +114,14 @@ few-legal-spec =
     loop-holds
     view-at-requires
     returns
-    scan-at-requires
+    take-at-requires
     returns-2
-    first-in-requires
-    returns-3
-    take-requires
-    returns-4
     add-is-new
     is-new-requires
-    returns-5
+    returns-3
     add-count
     loop-less
     loop-again
-    returns-6
+    returns-4
     is-none-requires
-    returns-7)
+    returns-5)

@@ -3,14 +3,13 @@
 use Prim.Native.Nat.{_-_}
 use native.Mathlib.Omega.{arith}
 use mathlib.Core.Path.{_≡_, refl, sym, _∙_}
-use mathlib.Core.Bool.{true, false}
+use mathlib.Core.Bool.{true, false, and-false}
 use Rattle.xml.specs.Forest.{Forest}
 use Rattle.xml.specs.Tape.{Tape}
 use Rattle.xml.specs.TapeLaws.{Front, front}
 use Rattle.xml.specs.SameTapes.{not-true, not-false}
 use Rattle.keys.specs.Legal.{untimed}
 use Rattle.versions.specs.Branches.{Sought, first, repeats, sought-start, sought-found, sought-more, sought-none}
-use Rattle.legality.specs.Bounds.{no-and}
 use Rattle.legality.proofs.few.is_new.Statement.{statement}
 use Rattle.legality.proofs.few.is_new.Tie as tie
 use Rattle.legality.proofs.few.is_new.Reads as reads
@@ -50,7 +49,7 @@ same-nodes-requires : tie.Need-same-nodes-requires Inv-loop μ-loop
 same-nodes-requires c κs = let g = first (way (c .before .before) .tape) (c .before .loop-test .taken) in rw (c .view-at .ensures) (c .before .before .before .before .before .before .before .pre .1, record { forest = _; tape = g .inside })
 
 returns-2 : tie.Need-returns-2 Inv-loop μ-loop
-returns-2 c d k t u = let e : repeats k d ≡ true = sought-found (c .before .before .before .before .loop .inv d k t u) (c .before .before .before .loop-test .taken) (λ g h. sym (c .if2 .taken) ∙ (rw (c .before .before .view-at .ensures) at (c .before .same-nodes .ensures)) k g u h) in rw (e, no-and (untimed k)) refl
+returns-2 c d k t u = let e : repeats k d ≡ true = sought-found (c .before .before .before .before .loop .inv d k t u) (c .before .before .before .loop-test .taken) (λ g h. sym (c .if2 .taken) ∙ (rw (c .before .before .view-at .ensures) at (c .before .same-nodes .ensures)) k g u h) in rw (e, and-false (untimed k)) refl
 
 loop-less : tie.Need-loop-less Inv-loop μ-loop
 loop-less c = let s = here (c .before .before .before) in rw (c .before .before .view-at .ensures) (omega (arith, s .forward, s .inside))

@@ -11,6 +11,7 @@ use Rattle.keys.specs.Version.{_▸_}
 use Rattle.keys.specs.TableLaws.{table-rules}
 use Rattle.keys.specs.Walks.{Walk, OfNodes, walk-front, walk-node, walk-next}
 use Rattle.timestamp.specs.Set.{setOf}
+use Rattle.timestamp.specs.Words.{zeros-none}
 use Rattle.timestamp.specs.Listed.{listed as timesOf}
 use Rattle.versions.specs.Walk.{siblingsLegal}
 use Rattle.versions.specs.LegalSteps.{elementLegal, element-unlisted, element-named, element-front, element-lack, element-inside, element-once, last-labelled, walk-in}
@@ -124,34 +125,34 @@ module _ (t : ℕ) where
   siblings-legal-loop-holds c = (omega arith, c .before .before .before .before .pre .1 .0, λ K q s z f h. legally-start h)
 
   siblings-legal-own-times-requires : siblings-legal-lts.Need-own-times-requires (siblings-legal-calls t) (siblings-legal-at t) siblings-legal.Post siblings-legal-Inv-loop siblings-legal-μ-loop
-  siblings-legal-own-times-requires c κs = let s = walk-front (c .before .loop .inv .1) (c .loop-test .taken) in (s .forward, walk-node (c .before .loop .inv .1) (c .loop-test .taken) .valid)
+  siblings-legal-own-times-requires c κs = let s = walk-front (c .before .before .loop .inv .1) (c .before .loop-test .taken) in (s .forward, walk-node (c .before .before .loop .inv .1) (c .before .loop-test .taken) .valid, refl, zeros-none)
 
   siblings-legal-returns : siblings-legal-lts.Need-returns (siblings-legal-calls t) (siblings-legal-at t) siblings-legal.Post siblings-legal-Inv-loop siblings-legal-μ-loop
-  siblings-legal-returns c K q s z f h = let x = c .before .before .before .before .loop .inv .2 K q s z f h in let b = c .before .before .before .loop-test .taken in let w = c .before .before .own-times .ensures (c .before .before .before .before .before .before .before .before .before .args .n) _ (x .left) (c .before .before .before .before .before .before .before .before .before .pre .1 .1) (c .before .before .before .before .before .before .before .before .before .pre .1 .2) b (x .tape) in sym (legally-own x b (sym (w .ok-is) ∙ not-true _ (c .if1 .taken)))
+  siblings-legal-returns c K q s z f h = let x = c .before .before .before .before .loop .inv .2 K q s z f h in let b = c .before .before .before .loop-test .taken in let w = c .before .own-times .ensures .0 (c .before .before .before .before .before .before .before .before .before .args .n) _ (x .left) (c .before .before .before .before .before .before .before .before .before .pre .1 .1) (c .before .before .before .before .before .before .before .before .before .pre .1 .2) b (x .tape) in sym (legally-own x b (sym (w .ok-is) ∙ not-true _ (c .if1 .taken)))
 
   siblings-legal-element-at-requires : siblings-legal-lts.Need-element-at-requires (siblings-legal-calls t) (siblings-legal-at t) siblings-legal.Post siblings-legal-Inv-loop siblings-legal-μ-loop
-  siblings-legal-element-at-requires c κs = walk-front (c .before .before .before .before .before .loop .inv .1) (c .before .before .before .before .loop-test .taken) .held
+  siblings-legal-element-at-requires c κs = walk-front (c .before .before .before .before .loop .inv .1) (c .before .before .before .loop-test .taken) .held
 
   siblings-legal-element-legal-requires : siblings-legal-lts.Need-element-legal-requires (siblings-legal-calls t) (siblings-legal-at t) siblings-legal.Post siblings-legal-Inv-loop siblings-legal-μ-loop
-  siblings-legal-element-legal-requires c κs = let A = c .before .before .before .before .before .before .before .before .before .before .before .pre .1 .0 .placed in let K = A .keyList in let q = A .path in let s = A .table in let z = A .place-is in let f = c .before .before .before .before .before .before .before .before .before .before .before .pre .1 .0 .valid .forest in let h = c .before .before .before .before .before .before .before .before .before .before .before .pre .1 .0 .valid .tape in let x = c .before .before .before .before .before .before .loop .inv .2 K q s z f h in let b = c .before .before .before .before .before .loop-test .taken in let w = c .before .before .before .before .own-times .ensures (c .before .before .before .before .before .before .before .before .before .before .before .args .n) _ (x .left) (c .before .before .before .before .before .before .before .before .before .before .before .pre .1 .1) (c .before .before .before .before .before .before .before .before .before .before .before .pre .1 .2) b (x .tape) in let g = not-false _ (c .before .before .if1 .left) in let o = sym (w .ok-is) ∙ g in let y = the-sib x b o in rw (c .element-at .ensures) (omega (arith, y .low, y .inside, tape-le (y .tape), c .before .before .before .before .before .before .loop .inv .0, c .before .before .before .before .before .before .before .before .before .before .before .pre .0), record { placed = A; name = y .name; kids = y .kids; node = y .node; tape = y .tape; few = c .before .before .before .before .before .before .before .before .before .before .before .pre .1 .1; only = w .only g })
+  siblings-legal-element-legal-requires c κs = let A = c .before .before .before .before .before .before .before .before .before .before .pre .1 .0 .placed in let K = A .keyList in let q = A .path in let s = A .table in let z = A .place-is in let f = c .before .before .before .before .before .before .before .before .before .before .pre .1 .0 .valid .forest in let h = c .before .before .before .before .before .before .before .before .before .before .pre .1 .0 .valid .tape in let x = c .before .before .before .before .before .loop .inv .2 K q s z f h in let b = c .before .before .before .before .loop-test .taken in let w = c .before .before .own-times .ensures .0 (c .before .before .before .before .before .before .before .before .before .before .args .n) _ (x .left) (c .before .before .before .before .before .before .before .before .before .before .pre .1 .1) (c .before .before .before .before .before .before .before .before .before .before .pre .1 .2) b (x .tape) in let g = not-false _ (c .before .if1 .left) in let o = sym (w .ok-is) ∙ g in let y = the-sib x b o in rw (c .element-at .ensures) (omega (arith, y .low, y .inside, tape-le (y .tape), c .before .before .before .before .before .loop .inv .0, c .before .before .before .before .before .before .before .before .before .before .pre .0), record { placed = A; name = y .name; kids = y .kids; node = y .node; tape = y .tape; few = c .before .before .before .before .before .before .before .before .before .before .pre .1 .1; only = w .only g })
 
   siblings-legal-returns-2 : siblings-legal-lts.Need-returns-2 (siblings-legal-calls t) (siblings-legal-at t) siblings-legal.Post siblings-legal-Inv-loop siblings-legal-μ-loop
-  siblings-legal-returns-2 c K q s z f h = let x = c .before .before .before .before .before .before .before .before .loop .inv .2 K q s z f h in let b = c .before .before .before .before .before .before .before .loop-test .taken in let w = c .before .before .before .before .before .before .own-times .ensures (c .before .before .before .before .before .before .before .before .before .before .before .before .before .args .n) _ (x .left) (c .before .before .before .before .before .before .before .before .before .before .before .before .before .pre .1 .1) (c .before .before .before .before .before .before .before .before .before .before .before .before .before .pre .1 .2) b (x .tape) in let g = not-false _ (c .before .before .before .before .if1 .left) in let o = sym (w .ok-is) ∙ g in let y = the-sib x b o in sym (legally-element x b o (ap (λ u. elementLegal K (c .before .before .before .before .before .before .before .before .before .before .before .before .before .args .n) q u (y .name) (y .kids)) (sym (w .own g)) ∙ sym ((rw (c .before .before .element-at .ensures) at (c .before .element-legal .ensures)) K q s z (y .name) (y .kids) (y .node) (y .tape)) ∙ not-true _ (c .if2 .taken)))
+  siblings-legal-returns-2 c K q s z f h = let x = c .before .before .before .before .before .before .before .loop .inv .2 K q s z f h in let b = c .before .before .before .before .before .before .loop-test .taken in let w = c .before .before .before .before .own-times .ensures .0 (c .before .before .before .before .before .before .before .before .before .before .before .before .args .n) _ (x .left) (c .before .before .before .before .before .before .before .before .before .before .before .before .pre .1 .1) (c .before .before .before .before .before .before .before .before .before .before .before .before .pre .1 .2) b (x .tape) in let g = not-false _ (c .before .before .before .if1 .left) in let o = sym (w .ok-is) ∙ g in let y = the-sib x b o in sym (legally-element x b o (ap (λ u. elementLegal K (c .before .before .before .before .before .before .before .before .before .before .before .before .args .n) q u (y .name) (y .kids)) (sym (w .own g)) ∙ sym ((rw (c .before .before .element-at .ensures) at (c .before .element-legal .ensures)) K q s z (y .name) (y .kids) (y .node) (y .tape)) ∙ not-true _ (c .if2 .taken)))
 
   siblings-legal-ascends-requires : siblings-legal-lts.Need-ascends-requires (siblings-legal-calls t) (siblings-legal-at t) siblings-legal.Post siblings-legal-Inv-loop siblings-legal-μ-loop
-  siblings-legal-ascends-requires c κs = let A = c .before .before .before .before .before .before .before .before .before .before .before .before .before .pre .1 .0 .placed in let K = A .keyList in let q = A .path in let s = A .table in let z = A .place-is in let f = c .before .before .before .before .before .before .before .before .before .before .before .before .before .pre .1 .0 .valid .forest in let h = c .before .before .before .before .before .before .before .before .before .before .before .before .before .pre .1 .0 .valid .tape in let x = c .before .before .before .before .before .before .before .before .loop .inv .2 K q s z f h in let b = c .before .before .before .before .before .before .before .loop-test .taken in let w = c .before .before .before .before .before .before .own-times .ensures (c .before .before .before .before .before .before .before .before .before .before .before .before .before .args .n) _ (x .left) (c .before .before .before .before .before .before .before .before .before .before .before .before .before .pre .1 .1) (c .before .before .before .before .before .before .before .before .before .before .before .before .before .pre .1 .2) b (x .tape) in let g = not-false _ (c .before .before .before .before .if1 .left) in let o = sym (w .ok-is) ∙ g in let y = the-sib x b o in rw (c .before .before .element-at .ensures) (λ l. last-labelled s z (x .last-one) l, record { keyList = K; path = q; tabled = s; place-is = z; name = y .name; kids = y .kids; node = y .node; tape = y .tape; once = element-once K (c .before .before .before .before .before .before .before .before .before .before .before .before .before .args .n) q _ (y .name) (y .kids) (ap (λ u. elementLegal K (c .before .before .before .before .before .before .before .before .before .before .before .before .before .args .n) q u (y .name) (y .kids)) (sym (w .own g)) ∙ sym ((rw (c .before .before .element-at .ensures) at (c .before .element-legal .ensures)) K q s z (y .name) (y .kids) (y .node) (y .tape)) ∙ not-false _ (c .if2 .left)) })
+  siblings-legal-ascends-requires c κs = let A = c .before .before .before .before .before .before .before .before .before .before .before .before .pre .1 .0 .placed in let K = A .keyList in let q = A .path in let s = A .table in let z = A .place-is in let f = c .before .before .before .before .before .before .before .before .before .before .before .before .pre .1 .0 .valid .forest in let h = c .before .before .before .before .before .before .before .before .before .before .before .before .pre .1 .0 .valid .tape in let x = c .before .before .before .before .before .before .before .loop .inv .2 K q s z f h in let b = c .before .before .before .before .before .before .loop-test .taken in let w = c .before .before .before .before .own-times .ensures .0 (c .before .before .before .before .before .before .before .before .before .before .before .before .args .n) _ (x .left) (c .before .before .before .before .before .before .before .before .before .before .before .before .pre .1 .1) (c .before .before .before .before .before .before .before .before .before .before .before .before .pre .1 .2) b (x .tape) in let g = not-false _ (c .before .before .before .if1 .left) in let o = sym (w .ok-is) ∙ g in let y = the-sib x b o in rw (c .before .before .element-at .ensures) (λ l. last-labelled s z (x .last-one) l, record { keyList = K; path = q; tabled = s; place-is = z; name = y .name; kids = y .kids; node = y .node; tape = y .tape; once = element-once K (c .before .before .before .before .before .before .before .before .before .before .before .before .args .n) q _ (y .name) (y .kids) (ap (λ u. elementLegal K (c .before .before .before .before .before .before .before .before .before .before .before .before .args .n) q u (y .name) (y .kids)) (sym (w .own g)) ∙ sym ((rw (c .before .before .element-at .ensures) at (c .before .element-legal .ensures)) K q s z (y .name) (y .kids) (y .node) (y .tape)) ∙ not-false _ (c .if2 .left)) })
 
   siblings-legal-returns-3 : siblings-legal-lts.Need-returns-3 (siblings-legal-calls t) (siblings-legal-at t) siblings-legal.Post siblings-legal-Inv-loop siblings-legal-μ-loop
-  siblings-legal-returns-3 c K q s z f h = let x = c .before .before .before .before .before .before .before .before .before .before .loop .inv .2 K q s z f h in let b = c .before .before .before .before .before .before .before .before .before .loop-test .taken in let w = c .before .before .before .before .before .before .before .before .own-times .ensures (c .before .before .before .before .before .before .before .before .before .before .before .before .before .before .before .args .n) _ (x .left) (c .before .before .before .before .before .before .before .before .before .before .before .before .before .before .before .pre .1 .1) (c .before .before .before .before .before .before .before .before .before .before .before .before .before .before .before .pre .1 .2) b (x .tape) in let g = not-false _ (c .before .before .before .before .before .before .if1 .left) in let o = sym (w .ok-is) ∙ g in let y = the-sib x b o in sym (legally-not x b o (sym ((rw (c .before .before .before .before .element-at .ensures) at (c .before .ascends .ensures)) K q s z (x .before-it) (y .name) (y .kids) (x .last-one) (y .node) (y .tape)) ∙ not-true _ (c .if3 .taken)))
+  siblings-legal-returns-3 c K q s z f h = let x = c .before .before .before .before .before .before .before .before .before .loop .inv .2 K q s z f h in let b = c .before .before .before .before .before .before .before .before .loop-test .taken in let w = c .before .before .before .before .before .before .own-times .ensures .0 (c .before .before .before .before .before .before .before .before .before .before .before .before .before .before .args .n) _ (x .left) (c .before .before .before .before .before .before .before .before .before .before .before .before .before .before .pre .1 .1) (c .before .before .before .before .before .before .before .before .before .before .before .before .before .before .pre .1 .2) b (x .tape) in let g = not-false _ (c .before .before .before .before .before .if1 .left) in let o = sym (w .ok-is) ∙ g in let y = the-sib x b o in sym (legally-not x b o (sym ((rw (c .before .before .before .before .element-at .ensures) at (c .before .ascends .ensures)) K q s z (x .before-it) (y .name) (y .kids) (x .last-one) (y .node) (y .tape)) ∙ not-true _ (c .if3 .taken)))
 
   siblings-legal-view-at-requires : siblings-legal-lts.Need-view-at-requires (siblings-legal-calls t) (siblings-legal-at t) siblings-legal.Post siblings-legal-Inv-loop siblings-legal-μ-loop
-  siblings-legal-view-at-requires c κs = walk-front (c .before .before .before .before .before .before .before .before .before .before .loop .inv .1) (c .before .before .before .before .before .before .before .before .before .loop-test .taken) .held
+  siblings-legal-view-at-requires c κs = walk-front (c .before .before .before .before .before .before .before .before .before .loop .inv .1) (c .before .before .before .before .before .before .before .before .loop-test .taken) .held
 
   siblings-legal-loop-less : siblings-legal-lts.Need-loop-less (siblings-legal-calls t) (siblings-legal-at t) siblings-legal.Post siblings-legal-Inv-loop siblings-legal-μ-loop
-  siblings-legal-loop-less c = let s = walk-front (c .before .before .before .before .before .before .before .before .before .before .before .loop .inv .1) (c .before .before .before .before .before .before .before .before .before .before .loop-test .taken) in rw (c .view-at .ensures) (omega (arith, s .forward, s .inside))
+  siblings-legal-loop-less c = let s = walk-front (c .before .before .before .before .before .before .before .before .before .before .loop .inv .1) (c .before .before .before .before .before .before .before .before .before .loop-test .taken) in rw (c .view-at .ensures) (omega (arith, s .forward, s .inside))
 
   siblings-legal-loop-again : siblings-legal-lts.Need-loop-again (siblings-legal-calls t) (siblings-legal-at t) siblings-legal.Post siblings-legal-Inv-loop siblings-legal-μ-loop
-  siblings-legal-loop-again c = let k = walk-front (c .before .before .before .before .before .before .before .before .before .before .before .loop .inv .1) (c .before .before .before .before .before .before .before .before .before .before .loop-test .taken) in rw (c .view-at .ensures, c .before .before .before .before .before .element-at .ensures) (omega (arith, k .forward, c .before .before .before .before .before .before .before .before .before .before .before .loop .inv .0), walk-next (c .before .before .before .before .before .before .before .before .before .before .before .loop .inv .1) (c .before .before .before .before .before .before .before .before .before .before .loop-test .taken), λ K q s z f h. let x = c .before .before .before .before .before .before .before .before .before .before .before .loop .inv .2 K q s z f h in let b = c .before .before .before .before .before .before .before .before .before .before .loop-test .taken in let w = c .before .before .before .before .before .before .before .before .before .own-times .ensures (c .before .before .before .before .before .before .before .before .before .before .before .before .before .before .before .before .args .n) _ (x .left) (c .before .before .before .before .before .before .before .before .before .before .before .before .before .before .before .before .pre .1 .1) (c .before .before .before .before .before .before .before .before .before .before .before .before .before .before .before .before .pre .1 .2) b (x .tape) in let g = not-false _ (c .before .before .before .before .before .before .before .if1 .left) in let o = sym (w .ok-is) ∙ g in let y = the-sib x b o in legally-more x b o (ap (λ u. elementLegal K (c .before .before .before .before .before .before .before .before .before .before .before .before .before .before .before .before .args .n) q u (y .name) (y .kids)) (sym (w .own g)) ∙ sym ((rw (c .before .before .before .before .before .element-at .ensures) at (c .before .before .before .before .element-legal .ensures)) K q s z (y .name) (y .kids) (y .node) (y .tape)) ∙ not-false _ (c .before .before .before .if2 .left)) (sym ((rw (c .before .before .before .before .before .element-at .ensures) at (c .before .before .ascends .ensures)) K q s z (x .before-it) (y .name) (y .kids) (x .last-one) (y .node) (y .tape)) ∙ not-false _ (c .before .if3 .left)))
+  siblings-legal-loop-again c = let k = walk-front (c .before .before .before .before .before .before .before .before .before .before .loop .inv .1) (c .before .before .before .before .before .before .before .before .before .loop-test .taken) in rw (c .view-at .ensures, c .before .before .before .before .before .element-at .ensures) (omega (arith, k .forward, c .before .before .before .before .before .before .before .before .before .before .loop .inv .0), walk-next (c .before .before .before .before .before .before .before .before .before .before .loop .inv .1) (c .before .before .before .before .before .before .before .before .before .loop-test .taken), λ K q s z f h. let x = c .before .before .before .before .before .before .before .before .before .before .loop .inv .2 K q s z f h in let b = c .before .before .before .before .before .before .before .before .before .loop-test .taken in let w = c .before .before .before .before .before .before .before .own-times .ensures .0 (c .before .before .before .before .before .before .before .before .before .before .before .before .before .before .before .args .n) _ (x .left) (c .before .before .before .before .before .before .before .before .before .before .before .before .before .before .before .pre .1 .1) (c .before .before .before .before .before .before .before .before .before .before .before .before .before .before .before .pre .1 .2) b (x .tape) in let g = not-false _ (c .before .before .before .before .before .before .if1 .left) in let o = sym (w .ok-is) ∙ g in let y = the-sib x b o in legally-more x b o (ap (λ u. elementLegal K (c .before .before .before .before .before .before .before .before .before .before .before .before .before .before .before .args .n) q u (y .name) (y .kids)) (sym (w .own g)) ∙ sym ((rw (c .before .before .before .before .before .element-at .ensures) at (c .before .before .before .before .element-legal .ensures)) K q s z (y .name) (y .kids) (y .node) (y .tape)) ∙ not-false _ (c .before .before .before .if2 .left)) (sym ((rw (c .before .before .before .before .before .element-at .ensures) at (c .before .before .ascends .ensures)) K q s z (x .before-it) (y .name) (y .kids) (x .last-one) (y .node) (y .tape)) ∙ not-false _ (c .before .if3 .left)))
 
   siblings-legal-returns-4 : siblings-legal-lts.Need-returns-4 (siblings-legal-calls t) (siblings-legal-at t) siblings-legal.Post siblings-legal-Inv-loop siblings-legal-μ-loop
   siblings-legal-returns-4 c K q s z f h = sym (legally-done (c .before .loop .inv .2 K q s z f h) (c .loop-test .left))

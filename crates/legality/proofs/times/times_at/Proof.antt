@@ -1,10 +1,8 @@
--- `archive::times::times_at` meets its contract: the part is a slice. Assumes nothing.
-use Prim.Native.Nat.{ℕ, _+_, _-_}
+-- `legality::times::times_at` meets its contract: the part is a slice. Assumes nothing.
 use native.Mathlib.Omega.{arith}
-use mathlib.Core.Path.{_≡_, sym, _∙_, ap}
-use lib.Seq.{slice}
-use Rattle.xml.specs.TapeLaws.{slice-part}
+use mathlib.Core.Path.{_∙_, ap}
 use Rattle.timestamp.specs.Parse.{parsed}
+use Rattle.versions.specs.TimedLaws.{part-slice}
 use borrow.Author.Needs.{needs}
 use Rattle.legality.proofs.times.times_at.Statement.{statement}
 use Rattle.legality.proofs.times.times_at.Tie as tie
@@ -22,9 +20,7 @@ parse-requires : tie.Need-parse-requires
 parse-requires c κs = search needs
 
 returns : tie.Need-returns
-returns c =
-    let z : c .before .before .before .args .a + (c .before .before .before .args .e - c .before .before .before .args .a) ≡ c .before .before .before .args .e = omega arith in
-    c .parse .ensures ∙ ap parsed (sym (slice-part (c .before .before .before .args .a) (c .before .before .before .args .e - c .before .before .before .args .a) (c .before .before .before .args .src .now)) ∙ ap (λ (x : ℕ). slice (c .before .before .before .args .a) x (c .before .before .before .args .src .now)) z)
+returns c = let a = c .before .before .before .args in c .parse .ensures ∙ ap parsed (part-slice (a .a) (a .e) (a .src .now) (omega arith))
 
 pub times-at-spec : {M : Type 1} → statement M
 times-at-spec =

@@ -1,13 +1,14 @@
--- `timestamp::text::parse` meets its contract: it is what `scan` says of the set.
-use borrow.Author.Needs.{needs}
+-- `timestamp::text::parse` meets its contract: it is what `parse_into` reads into words that hold no number.
+use mathlib.Core.Path.{refl}
+use Rattle.timestamp.specs.Words.{zeros-none}
 use Rattle.timestamp.proofs.text.parse.Statement.{statement}
 use Rattle.timestamp.proofs.text.parse.Tie as tie
 
-scan-requires : tie.Need-scan-requires
-scan-requires c κs = search needs
+parse-into-requires : tie.Need-parse-into-requires
+parse-into-requires c κs = (refl, zeros-none)
 
 returns : tie.Need-returns
-returns c = c .before .scan .ensures .0
+returns c = c .parse-into .ensures .0
 
 pub parse-spec : {M : Type 1} → statement M
-parse-spec = tie.close (tie.spec scan-requires returns)
+parse-spec = tie.close (tie.spec parse-into-requires returns)
