@@ -1,9 +1,10 @@
 -- A version's text received: what is asked of its tape, what the answer says, and a law for each answer.
-use Prim.Native.Nat.{ℕ, _≤_}
+use Prim.Native.Nat.{ℕ, _*_, _≤_}
 use mathlib.Core.Path.{_≡_, refl, sym, _∙_, subst}
 use mathlib.Core.Bool.{Bool, true, false}
 use mathlib.Core.List.{List, []}
 use lib.Dec.{eqb}
+use native.Mathlib.Omega.{arith}
 use lib.ListN.{length}
 use Rattle.xml.specs.Bytes.{Bytes}
 use Rattle.xml.specs.Forest.{Forest, Tidy}
@@ -11,7 +12,7 @@ use Rattle.xml.specs.Read.{whole, broken, read}
 use Rattle.xml.specs.RoundTrip.{read-tidy}
 use Rattle.xml.specs.Tape.{Tape}
 use Rattle.xml.specs.State.{Filled, Replied}
-use Rattle.xml.specs.Fits.{full-broken}
+use Rattle.xml.specs.Fits.{full-broken, version-fits}
 use Rattle.xml.specs.declared.Reply.{Reply}
 use Rattle.xml.specs.declared.Reply.the-variants.{Done as Reads, Wrong, Full}
 use Rattle.keys.specs.Result.{Refusal, numberOf, r5, r6, r7, r8, r9, refused, ok}
@@ -31,6 +32,7 @@ pub record OnTape (src cells : List ℕ) (count : ℕ) : Type 0 where
   pub forest : Forest
   pub is : read false src ≡ whole forest
   pub tape : Tape src cells 0 count forest
+  pub few : count ≤ 8192
 
 -- the nodes 0 to m are the version of the text
 pub record Version (K : KeyList) (src left : List ℕ) (m : ℕ) : Type 0 where
@@ -56,8 +58,9 @@ walked t g = walk-top (t .table) (g .tape)
 
 -- ---- the reader's answers, and those of `arrange`
 module _ (src before cells : List ℕ) {r : Reply} where
-  pub read-done : {count : ℕ} → r ≡ Reads count → Replied false src before cells r → OnTape src cells count
-  read-done {count} e x = let g : Filled false src before cells count = subst (Replied false src before cells) e x in record { forest = g .forest; is = g .is; tape = g .tape }
+  pub read-done : {count : ℕ} → length src ≤ 16384 → r ≡ Reads count → Replied false src before cells r → OnTape src cells count
+  read-done {count} l e x = let g : Filled false src before cells count = subst (Replied false src before cells) e x in
+      record { forest = g .forest; is = g .is; tape = g .tape; few = omega (arith, g .count, version-fits false src (g .forest) (g .is)) }
 
   pub read-wrong : {p : ℕ} → r ≡ Wrong p → Replied false src before cells r → read false src ≡ broken p
   read-wrong e x = subst (Replied false src before cells) e x

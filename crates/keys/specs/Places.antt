@@ -1,6 +1,6 @@
 -- What the functions over a key list's table read from it.
-use Prim.Native.Nat.{ℕ}
-use mathlib.Core.Bool.{Bool, _&&_}
+use Prim.Native.Nat.{ℕ, _+_}
+use mathlib.Core.Bool.{Bool, true, false, _&&_}
 use mathlib.Core.List.{List}
 use lib.Dec.{eqb}
 use lib.Seq.{slice}
@@ -15,3 +15,7 @@ partAt cells q = record { start = nameStart cells q; end = nameEnd cells q }
 -- the path number i is below the place, with this name
 abbrev pub isChildAt : Bytes → List ℕ → ℕ → ℕ → Bytes → Bool
 isChildAt text cells i place name = eqb (parentIn cells i) place && same name (slice (nameStart cells i) (nameEnd cells i) text)
+
+-- the first number that a path below the place can have
+abbrev pub firstBelow : ℕ → ℕ
+firstBelow place = elim (eqb place 128) [ true ↦ 0 | false ↦ place + 1 ]

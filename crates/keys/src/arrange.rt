@@ -5,6 +5,7 @@ use crate::places::is_above;
 use xml::tape::view_at;
 ghost use Prim.Native.Nat.{_+_, _≤_};
 ghost use lib.ListN.{length};
+ghost use Rattle.xml.specs.Tape.{nextAt};
 ghost use Rattle.keys.specs.Copied.{Linked, Copied};
 ghost use Rattle.keys.specs.Building.{ContentFit, ElementFit, ContentArranged, ElementArranged};
 ghost use Rattle.keys.specs.Arrange.{VersionFit, Answers};
@@ -44,7 +45,7 @@ fn arrange_element(
     out: &mut [u32],
     m: usize,
 ) -> usize
-    requires { ⌜ ElementFit (now text) (now table) n place (now src) (now tape) p m × (1024 ≤ length (now out)) ⌝ }
+    requires { ⌜ ElementFit (now text) (now table) n place (now src) (now tape) p m × (1024 ≤ length (now out)) × (nextAt (now tape) p ≤ 65536) ⌝ }
     ensures { λ r. ⌜ ElementArranged (now (text .entry)) (now (table .entry)) n place (now (src .entry)) (now (tape .entry)) p (now (out .entry)) m r (now (out .exit)) ⌝ }
 {
     let v = view_at(tape, p);
@@ -72,13 +73,13 @@ fn arrange_content(
     out: &mut [u32],
     m: usize,
 ) -> usize
-    requires { ⌜ ContentFit (now text) (now table) n place (now src) (now tape) lo hi m × (1024 ≤ length (now out)) ⌝ }
+    requires { ⌜ ContentFit (now text) (now table) n place (now src) (now tape) lo hi m × (1024 ≤ length (now out)) × (hi ≤ 65536) ⌝ }
     ensures { λ r. ⌜ ContentArranged (now (text .entry)) (now (table .entry)) n place (now (src .entry)) (now (tape .entry)) lo hi (now (out .entry)) m r (now (out .exit)) ⌝ }
 {
     if !is_above(table, n, place) {
         return copy(tape, lo, hi, out, m);
     }
-    let mut order = [0u32; 512];
+    let mut order = [0u16; 512];
     let k = order_in(text, table, n, place, src, tape, lo, hi, &mut order);
     if k == 513 {
         return 513;
@@ -106,7 +107,7 @@ pub fn arrange(
     count: usize,
     out: &mut [u32],
 ) -> Arranged
-    requires { ⌜ VersionFit (now text) (now table) n (now src) (now tape) count × (1024 ≤ length (now out)) ⌝ }
+    requires { ⌜ VersionFit (now text) (now table) n (now src) (now tape) count × (1024 ≤ length (now out)) × (count ≤ 65536) ⌝ }
     ensures { λ r. ⌜ Answers (now (text .entry)) (now (table .entry)) n (now (src .entry)) (now (tape .entry)) count (now (out .exit)) r ⌝ }
 {
     let end = arrange_content(text, table, n, 128, src, tape, 0, count, out, 0);

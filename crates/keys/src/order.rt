@@ -27,7 +27,7 @@ fn rank_of(
     place: usize,
     src: &[u8],
     tape: &[u32],
-    order: &[u32; 512],
+    order: &[u16; 512],
     k: usize,
     p: usize,
 ) -> usize
@@ -54,8 +54,8 @@ fn rank_of(
 }
 
 // Puts p at j of the first k of `order`, and those from j on one further.
-fn insert(order: &mut [u32; 512], k: usize, j: usize, p: usize)
-    requires { ⌜ (j ≤ k) × (k < 512) × (p < 2 ^ 32) × (length (now order) ≡ 512) ⌝ }
+fn insert(order: &mut [u16; 512], k: usize, j: usize, p: usize)
+    requires { ⌜ (j ≤ k) × (k < 512) × (p < 2 ^ 16) × (length (now order) ≡ 512) ⌝ }
     ensures { λ r. ⌜ now (order .exit) ≡ insertAt k j p (now (order .entry)) ⌝ }
 {
     let mut i = k;
@@ -63,7 +63,7 @@ fn insert(order: &mut [u32; 512], k: usize, j: usize, p: usize)
         order[i] = order[i - 1];
         i -= 1;
     }
-    order[j] = p as u32;
+    order[j] = p as u16;
 }
 
 // The elements among the nodes lo to hi, in an element at the place, put into `order` by ascending labels: how many; or 513 where two have the same label.
@@ -76,9 +76,9 @@ pub fn order_in(
     tape: &[u32],
     lo: usize,
     hi: usize,
-    order: &mut [u32; 512],
+    order: &mut [u16; 512],
 ) -> usize
-    requires { ⌜ Checked (now text) (now table) n place (now src) (now tape) lo hi × Few (now src) (now tape) lo hi × (length (now order) ≡ 512) ⌝ }
+    requires { ⌜ Checked (now text) (now table) n place (now src) (now tape) lo hi × Few (now src) (now tape) lo hi × (length (now order) ≡ 512) × (hi ≤ 65536) ⌝ }
     ensures { λ r. ⌜ OrderIn (now (text .entry)) (now (table .entry)) n place (now (src .entry)) (now (tape .entry)) lo hi (now (order .exit)) r ⌝ }
 {
     let mut k = 0;

@@ -9,7 +9,7 @@ ghost use Rattle.keys.specs.KeyList.{above, keyNamesAt};
 ghost use Rattle.keys.specs.Version.{_▸_};
 ghost use Rattle.keys.specs.Table.{placeOf, nameEnd};
 ghost use Rattle.keys.specs.Placed.{Placed, OfPlace};
-ghost use Rattle.keys.specs.Places.{partAt, isChildAt};
+ghost use Rattle.keys.specs.Places.{partAt, firstBelow, isChildAt};
 
 // A part of a text, from start up to end.
 pub struct Part {
@@ -75,6 +75,17 @@ fn is_child(
     same_bytes(src, a, e, text, name.start, name.end)
 }
 
+// The first number that a path below a place can have: paths come after those that they continue.
+fn first_below(place: usize) -> usize
+    requires { ⌜ place ≤ 128 ⌝ }
+    ensures { λ r. ⌜ r ≡ firstBelow place ⌝ }
+{
+    if place == 128 {
+        return 0;
+    }
+    place + 1
+}
+
 // The place of the name src[a..e] below a place.
 pub fn child(
     text: &[u8],
@@ -91,7 +102,7 @@ pub fn child(
     if !is_above(table, n, place) {
         return 129;
     }
-    let mut i = 0;
+    let mut i = first_below(place);
     while i < n {
         if is_child(text, table, i, place, src, a, e) {
             return i;

@@ -1,5 +1,6 @@
 -- `accept` meets its contract: a law for each answer (Reception).
 use Rattle.archive.specs.Reception.{walked, sent-6, sent-7, sent-8, sent-9, received, arrange-fit, arranged-done, arranged-double}
+use native.Mathlib.Omega.{arith}
 use borrow.Author.Needs.{needs}
 use Rattle.archive.proofs.received.accept.Statement.{statement}
 use Rattle.archive.proofs.received.accept.Tie as tie
@@ -23,7 +24,7 @@ returns-3 : tie.Need-returns-3
 returns-3 c = sent-8 (c .before .before .before .before .before .before .before .before .before .before .before .pre .1) (c .before .before .before .before .before .too-large .ensures) (c .before .before .before .before .if1 .left) (c .before .before .before .is-misplaced .ensures) (c .before .before .if2 .left) (c .before .is-unkeyed .ensures) (c .if3 .taken)
 
 arrange-requires : tie.Need-arrange-requires
-arrange-requires c κs = (arrange-fit (c .before .before .before .before .before .before .before .before .before .before .before .before .pre .1) (c .before .before .before .before .before .before .too-large .ensures) (c .before .before .before .before .before .if1 .left) (c .before .before .before .before .is-misplaced .ensures) (c .before .before .before .if2 .left) (c .before .before .is-unkeyed .ensures) (c .before .if3 .left) (c .before .before .before .before .before .before .before .before .before .before .before .before .pre .0), c .before .before .before .before .before .before .before .before .before .before .before .before .pre .2)
+arrange-requires c κs = (arrange-fit (c .before .before .before .before .before .before .before .before .before .before .before .before .pre .1) (c .before .before .before .before .before .before .too-large .ensures) (c .before .before .before .before .before .if1 .left) (c .before .before .before .before .is-misplaced .ensures) (c .before .before .before .if2 .left) (c .before .before .is-unkeyed .ensures) (c .before .if3 .left) (c .before .before .before .before .before .before .before .before .before .before .before .before .pre .0), c .before .before .before .before .before .before .before .before .before .before .before .before .pre .2, omega (arith, c .before .before .before .before .before .before .before .before .before .before .before .before .pre .1 .few))
 
 enum-known-m : tie.Need-enum-known-m
 enum-known-m c = search needs

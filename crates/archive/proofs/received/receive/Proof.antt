@@ -12,7 +12,7 @@ enum-known-count : tie.Need-enum-known-count
 enum-known-count c = search needs
 
 accept-requires : tie.Need-accept-requires
-accept-requires c κs = (c .before .before .before .before .before .before .before .before .before .before .before .before .before .before .pre .0, read-done _ _ _ (c .before .before .before .count .given .1) (c .before .before .before .before .before .before .before .read .ensures), c .before .before .before .before .before .before .before .before .before .before .before .before .before .before .pre .3)
+accept-requires c κs = (c .before .before .before .before .before .before .before .before .before .before .before .before .before .before .pre .0, read-done _ _ _ (c .before .before .before .before .before .before .before .before .before .before .before .before .before .before .pre .1) (c .before .before .before .count .given .1) (c .before .before .before .before .before .before .before .read .ensures), c .before .before .before .before .before .before .before .before .before .before .before .before .before .before .pre .3)
 
 enum-known-p : tie.Need-enum-known-p
 enum-known-p c = search needs

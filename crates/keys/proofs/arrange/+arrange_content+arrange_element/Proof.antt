@@ -98,7 +98,7 @@ module _ (t : ℕ) where
   arrange-content-returns c = content-copied (c .before .before .before .before .before .before .before .before .before .before .before .pre .1 .0) (c .before .before .before .before .before .before .before .before .before .before .before .args .out .now) (low (c .before .before .before .before)) (c .before .before .copy .ensures) (few (c .before .before .before .before)) (c .before .before .before .before .before .before .before .before .before .before .before .pre .1 .1)
 
   arrange-content-order-in-requires : arrange-content-lts.Need-order-in-requires (arrange-content-calls t) (arrange-content-at t) arrange-content.Post arrange-content-Inv-loop arrange-content-μ-loop
-  arrange-content-order-in-requires c κs = (fit-checked (c .before .before .before .before .before .before .before .before .pre .1 .0), fit-few-tags (c .before .before .before .before .before .before .before .before .pre .1 .0), refl)
+  arrange-content-order-in-requires c κs = (fit-checked (c .before .before .before .before .before .before .before .before .pre .1 .0), fit-few-tags (c .before .before .before .before .before .before .before .before .pre .1 .0), refl, c .before .before .before .before .before .before .before .before .pre .1 .2)
 
   arrange-content-returns-2 : arrange-content-lts.Need-returns-2 (arrange-content-calls t) (arrange-content-at t) arrange-content.Post arrange-content-Inv-loop arrange-content-μ-loop
   arrange-content-returns-2 c = fit-twice (c .before .before .before .before .before .before .before .before .before .before .pre .1 .0) (c .before .before .before .before .before .before .before .before .before .before .args .out .now) (c .before .order-in .last .1 .1 .1 .1 .1 .1 .1 .1 .0) (c .before .order-in .result) (high (c .before .before .before)) (listed (c .before)) (c .if2 .taken)
@@ -118,7 +118,7 @@ module _ (t : ℕ) where
   arrange-content-arrange-element-requires : arrange-content-lts.Need-arrange-element-requires (arrange-content-calls t) (arrange-content-at t) arrange-content.Post arrange-content-Inv-loop arrange-content-μ-loop
   arrange-content-arrange-element-requires c κs =
       let y = turn (c .before .before .loop .inv) (c .before .loop-test .taken) in
-      (omega (arith, c .before .before .before .before .before .before .before .before .before .before .before .before .before .pre .0, y .entry .low, y .entry .inside, tape-le (y .entry .inner)), (turn-fit (c .before .before .loop .inv) (c .before .loop-test .taken), omega (arith, c .before .before .loop .inv .long, c .before .before .before .before .before .before .before .before .before .before .before .before .before .pre .1 .1)))
+      (omega (arith, c .before .before .before .before .before .before .before .before .before .before .before .before .before .pre .0, y .entry .low, y .entry .inside, tape-le (y .entry .inner)), (turn-fit (c .before .before .loop .inv) (c .before .loop-test .taken), omega (arith, c .before .before .loop .inv .long, c .before .before .before .before .before .before .before .before .before .before .before .before .before .pre .1 .1), omega (arith, y .entry .inside, c .before .before .before .before .before .before .before .before .before .before .before .before .before .pre .1 .2)))
 
   arrange-content-same-length-2 : arrange-content-lts.Need-same-length-2 (arrange-content-calls t) (arrange-content-at t) arrange-content.Post arrange-content-Inv-loop arrange-content-μ-loop
   arrange-content-same-length-2 c = c .before .before .before .arrange-element .kept .1 .1 .1 .1 .1 .1 .1 .0 ∙ c .before .before .before .before .before .before .loop .inv .long
@@ -191,7 +191,7 @@ module _ (t : ℕ) where
 
   arrange-element-arrange-content-requires : arrange-element-lts.Need-arrange-content-requires (arrange-element-calls t) (arrange-element-at t) arrange-element.Post
   arrange-element-arrange-content-requires c κs = rw (c .before .before .before .view-at .ensures)
-      (omega (arith, c .before .before .before .before .before .before .before .before .before .pre .0, tape-le (c .before .before .before .before .before .before .before .before .before .pre .1 .0 .tape)), (fit-kids (c .before .before .before .before .before .before .before .before .before .pre .1 .0) (own-place (c .before .before)), simp length-set (c .before .before .before .before .before .before .before .before .before .pre .1 .1)))
+      (omega (arith, c .before .before .before .before .before .before .before .before .before .pre .0, tape-le (c .before .before .before .before .before .before .before .before .before .pre .1 .0 .tape)), (fit-kids (c .before .before .before .before .before .before .before .before .before .pre .1 .0) (own-place (c .before .before)), simp length-set (c .before .before .before .before .before .before .before .before .before .pre .1 .1), c .before .before .before .before .before .before .before .before .before .pre .1 .2))
 
   arrange-element-same-length : arrange-element-lts.Need-same-length (arrange-element-calls t) (arrange-element-at t) arrange-element.Post
   arrange-element-same-length c = mid-length (c .before .before .before)

@@ -5,7 +5,7 @@ use Rattle.keys.proofs.arrange.arrange.Statement.{statement}
 use Rattle.keys.proofs.arrange.arrange.Tie as tie
 
 arrange-content-requires : tie.Need-arrange-content-requires
-arrange-content-requires c κs = (version-fits (c .before .before .before .before .before .before .pre .0), c .before .before .before .before .before .before .pre .1)
+arrange-content-requires c κs = (version-fits (c .before .before .before .before .before .before .pre .0), c .before .before .before .before .before .before .pre .1, c .before .before .before .before .before .before .pre .2)
 
 same-length : tie.Need-same-length
 same-length c = search needs

@@ -76,7 +76,7 @@ returns c =
     }
 
 insert-requires : tie.Need-insert-requires Inv-loop μ-loop
-insert-requires c κs = (c .before .before .rank-of .ensures .inside (c .before .if2 .left), room (c .before .before .before .before), omega (arith, turn (c .before .before .before .before .before .before .before) .forward, c .before .before .before .before .before .before .before .before .before .shared-slice-known4 .given (2 * c .before .before .before .before .before .before .before .before .loop .p + 1)), c .before .before .before .before .before .before .before .before .loop .inv .2)
+insert-requires c κs = (c .before .before .rank-of .ensures .inside (c .before .if2 .left), room (c .before .before .before .before), omega (arith, turn (c .before .before .before .before .before .before .before) .forward, turn (c .before .before .before .before .before .before .before) .inside, c .before .before .before .before .before .before .before .before .before .before .before .before .before .pre .3), c .before .before .before .before .before .before .before .before .loop .inv .2)
 
 add-k : tie.Need-add-k Inv-loop μ-loop
 add-k c = omega (arith, room (c .before .before .before .before .before))
