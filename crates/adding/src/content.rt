@@ -7,11 +7,12 @@ use xml::compare::same_nodes;
 use xml::tape::view_at;
 use xml::writer::write_at;
 ghost use mathlib.Core.Path.{_≡_};
-ghost use mathlib.Core.Bool.{true};
-ghost use Prim.Native.Nat.{ℕ, _+_, _*_, _-_, _^_, _<_, _≤_};
+ghost use mathlib.Core.Bool.{true, _&&_};
+ghost use Prim.Native.Nat.{ℕ, _+_, _*_, _-_, _%_, _^_, _<_, _≤_};
+ghost use lib.Dec.{eqb, ltb};
 ghost use lib.ListN.{length};
 ghost use Rattle.xml.specs.Forest.{Forest};
-ghost use Rattle.xml.specs.Tape.{Tape, Valid};
+ghost use Rattle.xml.specs.Tape.{headAt, Tape, Valid};
 ghost use Rattle.keys.specs.Legal.{untimed};
 ghost use Rattle.timestamp.specs.Times.{Times};
 ghost use Rattle.versions.specs.Walk.{addBranch, addBare, addContent};
@@ -95,6 +96,17 @@ fn write_bare(
     }
 }
 
+// The nodes lo to hi begin with a `T`.
+fn is_branched(tape: &[u32], lo: usize, hi: usize) -> bool
+    requires { ⌜ (lo < hi → 2 * lo + 1 < length (now tape)) ⌝ }
+    ensures { λ r. ⌜ r ≡ (ltb lo hi && eqb (headAt (now (tape .entry)) lo % 4) 2) ⌝ }
+{
+    if hi <= lo {
+        return false;
+    }
+    view_at(tape, lo).kind == 2
+}
+
 // What a frontier comes to hold: lo to hi is what it held in the versions `around`, vlo to vhi what it holds in version n + 1.
 pub fn write_contents(
     src: &[u8],
@@ -115,12 +127,8 @@ pub fn write_contents(
         → FrontIn n f → untimed v ≡ true → Says n (now (src .entry)) (around .start) (around .end) t
         → Grew (now (out .entry)) at (addContent n t v f) f (vhi - vlo) (262144 * (hi - lo + (vhi - vlo)) + 32768) r (now (out .exit))) ⌝ }
 {
-    if lo < hi {
-        let v = view_at(tape, lo);
-        if v.kind == 2 {
-            return write_branches(src, tape, lo, hi, vsrc, vtape, vlo, vhi, n, out, at);
-        }
-        return write_bare(src, tape, lo, hi, vsrc, vtape, vlo, vhi, n, around, out, at);
+    if is_branched(tape, lo, hi) {
+        return write_branches(src, tape, lo, hi, vsrc, vtape, vlo, vhi, n, out, at);
     }
     write_bare(src, tape, lo, hi, vsrc, vtape, vlo, vhi, n, around, out, at)
 }

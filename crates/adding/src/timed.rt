@@ -1,8 +1,7 @@
 // A `T` of the archive where a version is added: its text is copied, with one version more or as it stands.
 use timestamp::change::grown;
-use timestamp::write::put_tail;
+use walks::timed::put_changed;
 use xml::writer::put_open;
-use xml::writer::put_part;
 use xml::writer::put_word;
 use xml::writer::write_at;
 ghost use mathlib.Core.Path.{_≡_};
@@ -26,10 +25,7 @@ pub fn put_grown(src: &[u8], a: usize, e: usize, n: usize, out: &mut [u8], at: u
         → Wrote (now (out .entry)) at (opening false (textOf (adding (n + 1) s))) r (now (out .exit))) × (r ≤ at + 3008) ⌝ }
 {
     let change = grown(&src[a..e], n);
-    let times = put_word(b"<T t=\"", out, at);
-    let tail = put_part(src, a, a + change.to, out, times);
-    let last = put_tail(change.tail, n + 1, out, tail);
-    put_word(b"\">", out, last)
+    put_changed(change, src, a, n + 1, out, at)
 }
 
 // Writes the nodes lo to hi in such a `T`.

@@ -1,7 +1,7 @@
 -- A version more, at one element: how its set and its contents are written then.
 use Prim.Native.Nat.{ℕ, zero, suc, _≤_}
 use mathlib.Core.Path.{_≡_, refl, sym, _∙_, ap, ap₂}
-use mathlib.Core.Bool.{Bool, true, false, _&&_, Bool·beq}
+use mathlib.Core.Bool.{Bool, true, false, _&&_, Bool·beq, and-false}
 use mathlib.Core.Option.{none, some}
 use mathlib.Core.List.{[], _∷_, _++_}
 use lib.Dec.{T}
@@ -23,10 +23,6 @@ use Rattle.versions.specs.Walk.{timesIn, newest, addBranch, addBare, add
 use Rattle.versions.specs.SetLaws.{timesIn-write}
 
 -- ---- sets with one version more
-and-none : (b : Bool) → (b && false) ≡ false
-and-none true = refl
-and-none false = refl
-
 less : (t : Times) (b : Bool) → (sameTimes [] (t ▷ b) ≡ false) × (sameTimes (t ▷ b) [] ≡ false)
 unfolding sameTimes sameBy
 less [] b = (refl, refl)
@@ -37,17 +33,17 @@ pub same-more : (t u : Times) (b : Bool) → sameTimes (t ▷ b) (u ▷ b) ≡ s
 unfolding sameTimes sameBy
 same-more [] [] true = refl
 same-more [] [] false = refl
-same-more [] (c ∷ u) b = rw (less u b .0) (and-none (Bool·beq b c))
-same-more (a ∷ t) [] b = rw (less t b .1) (and-none (Bool·beq a b))
+same-more [] (c ∷ u) b = rw (less u b .0) (and-false (Bool·beq b c))
+same-more (a ∷ t) [] b = rw (less t b .1) (and-false (Bool·beq a b))
 same-more (a ∷ t) (c ∷ u) b = ap (λ s. Bool·beq a c && s) (same-more t u b)
 
 -- one that has it differs from one that lacks it
 pub same-apart : (t u : Times) → sameTimes (t ▷ true) (u ▷ false) ≡ false
 unfolding sameTimes sameBy
 same-apart [] [] = refl
-same-apart [] (c ∷ u) = rw (less u false .0) (and-none (Bool·beq true c))
-same-apart (a ∷ t) [] = rw (less t true .1) (and-none (Bool·beq a false))
-same-apart (a ∷ t) (c ∷ u) = rw (same-apart t u) (and-none (Bool·beq a c))
+same-apart [] (c ∷ u) = rw (less u false .0) (and-false (Bool·beq true c))
+same-apart (a ∷ t) [] = rw (less t true .1) (and-false (Bool·beq a false))
+same-apart (a ∷ t) (c ∷ u) = rw (same-apart t u) (and-false (Bool·beq a c))
 
 none-there : (n : ℕ) → any (replicate n false) ≡ false
 unfolding any

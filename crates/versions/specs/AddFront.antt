@@ -161,19 +161,12 @@ module _ {out left : List ℕ} {at r : ℕ} (n : ℕ) (t : Times) (v f : Forest)
 
 -- ---- which of the two
 module _ {src cells : List ℕ} {lo hi : ℕ} (n : ℕ) (t : Times) (v : Forest) where
-  pub content-none : {f : Forest} → Tape src cells lo hi f → hi ≤ lo → addContent n t v f ≡ addBare n t v f
-  unfolding addContent
-  content-none (at-end e) l = refl
-  content-none (at-text d u e r) l = refl
-  content-none (at-elem d i r) l = refl
-  content-none (at-stamp d i r) l = absurd (omega (arith, tape-le i, tape-le r))
-
-  pub content-bare : {f : Forest} → Tape src cells lo hi f → (headAt cells lo % 4 ≡ 2 → ⊥) → addContent n t v f ≡ addBare n t v f
+  pub content-bare : {f : Forest} → Tape src cells lo hi f → (lo < hi → headAt cells lo % 4 ≡ 2 → ⊥) → addContent n t v f ≡ addBare n t v f
   unfolding addContent
   content-bare (at-end e) h = refl
   content-bare (at-text d u e r) h = refl
   content-bare (at-elem d i r) h = refl
-  content-bare (at-stamp d i r) h = absurd (h (d .kind-is))
+  content-bare (at-stamp d i r) h = absurd (h (omega (arith, tape-le i, tape-le r)) (d .kind-is))
 
   pub content-timed : {f : Forest} → Tape src cells lo hi f → lo < hi → headAt cells lo % 4 ≡ 2 → FrontIn n f → (addContent n t v f ≡ addBranch n v f) × BranchesIn n f
   unfolding addContent

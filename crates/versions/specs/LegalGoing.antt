@@ -2,7 +2,7 @@
 use Prim.Native.Nat.{ℕ, _+_, _<_, _≤_}
 use native.Mathlib.Omega.{arith}
 use mathlib.Core.Path.{_≡_, refl, sym, _∙_, ap, ap₂, subst}
-use mathlib.Core.Bool.{Bool, true, false, _&&_, and-true}
+use mathlib.Core.Bool.{Bool, true, false, _&&_, and-true, and-false}
 use mathlib.Core.Option.{Option, none, some}
 use mathlib.Core.List.{List}
 use Rattle.xml.specs.Bytes.{Bytes, same}
@@ -98,10 +98,6 @@ unfolding precedes
 precedes-end none = refl
 precedes-end (some a) = refl
 
-and-no : (b : Bool) → (b && false) ≡ false
-and-no true = refl
-and-no false = refl
-
 module _ {src cells : List ℕ} {K : KeyList} {n : ℕ} {q : Path} {t : Times} where
   pub legally-start : {p hi : ℕ} {f : Forest} → Tape src cells p hi f → Legally src cells K n q t p hi hi (siblingsLegal K n q t f)
   unfolding precedes
@@ -115,7 +111,7 @@ module _ {src cells : List ℕ} {K : KeyList} {n : ℕ} {q : Path} {t : Times} w
         x .same ∙ ap (λ f. precedes (x .before-it) (firstLabel K q f) && siblingsLegal K n q t f) (tape-none (rw e at (x .tape))) ∙ ap (λ b. b && true) (precedes-end (x .before-it))
 
     pub legally-own : p < hi → ownLegal n t (x .left) ≡ false → whole ≡ false
-    legally-own b o = x .same ∙ ap (λ z. precedes (x .before-it) (firstLabel K q (x .left)) && z) (sib-not K n q t (x .tape) b o) ∙ and-no (precedes (x .before-it) (firstLabel K q (x .left)))
+    legally-own b o = x .same ∙ ap (λ z. precedes (x .before-it) (firstLabel K q (x .left)) && z) (sib-not K n q t (x .tape) b o) ∙ and-false (precedes (x .before-it) (firstLabel K q (x .left)))
 
     module _ (b : p < hi) (o : ownLegal n t (x .left) ≡ true) where
       pub the-sib : Sib src cells K n q t p hi (x .left)
@@ -125,7 +121,7 @@ module _ {src cells : List ℕ} {K : KeyList} {n : ℕ} {q : Path} {t : Times} w
       legally-element h =
           x .same ∙ ap (λ z. precedes (x .before-it) (firstLabel K q (x .left)) && z)
           (the-sib .legal ∙ ap (λ z. z && precedes (some (label K q (the-sib .name) (the-sib .kids))) (firstLabel K q (the-sib .rest)) && siblingsLegal K n q t (the-sib .rest)) h)
-          ∙ and-no (precedes (x .before-it) (firstLabel K q (x .left)))
+          ∙ and-false (precedes (x .before-it) (firstLabel K q (x .left)))
 
       pub legally-not : precedes (x .before-it) (some (label K q (the-sib .name) (the-sib .kids))) ≡ false → whole ≡ false
       legally-not h = x .same ∙ ap (λ z. z && siblingsLegal K n q t (x .left)) (ap (precedes (x .before-it)) (the-sib .first-is) ∙ h)

@@ -43,12 +43,6 @@ node-part src cells p =
     rw e (sym (slice-part (startIn h) (h / 4 % 32768) src))
 
 module _ {src cells : List ℕ} where
-  pub valid-first : {p q : ℕ} → Valid src cells p q → p < q → Valid src cells p (nextAt cells p)
-  valid-first x l = let s = split (x .tape) l in record { forest = s .first; tape = s .here }
-
-  pub valid-rest : {p q : ℕ} → Valid src cells p q → p < q → Valid src cells (nextAt cells p) q
-  valid-rest x l = let s = split (x .tape) l in record { forest = s .rest; tape = s .after }
-
   pub valid-inside : {p : ℕ} → Valid src cells p (nextAt cells p) → p < nextAt cells p → (headAt cells p % 4 ≡ 0 → ⊥) → Valid src cells (p + 1) (nextAt cells p)
   valid-inside x l k = let i = inner-node (x .tape) l k in record { forest = i .kids; tape = i .tape }
 

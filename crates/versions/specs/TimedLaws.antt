@@ -89,16 +89,13 @@ pub change-short : {to tail v : ℕ} {g : (ℕ → Bool) → ℕ → Bool} (l : 
 change-short {to} {tail} {v} {g} l s f c =
     omega (arith, text-short (g s), ap length (c .becomes s f) ∙ length-append (take to l) (tailText tail v), length-take-le to l (c .inside))
 
--- ---- a `T` whose set has version n + 1 added: the first bytes of its text and a tail
-pub wrote-grown : {out mid far last left : List ℕ} {at i j k r to tail : ℕ} (n a e : ℕ) (src : Bytes) (s : ℕ → Bool) → a ≤ e → e ≤ length src → parsed (slice a e src) ≡ accepted s
-    → Changes (slice a e src) (adding (n + 1)) (n + 1) to tail → Wrote out at (bytes "<T t=\"") i mid → Wrote mid i (slice a (a + to) src) j far → Wrote far j (tailText tail (n + 1)) k last
-    → Wrote last k (bytes "\">") r left → Wrote out at (opening false (textOf (adding (n + 1) s))) r left × (r ≤ at + 3008)
-wrote-grown {to = to} n a e src s l w f c x y z q =
-    let d : a + to - a ≡ to = omega arith in
+-- ---- the text of a changed set, where the set's own is a part of a text
+pub changed-text : {to tail v : ℕ} {g : (ℕ → Bool) → ℕ → Bool} (a e : ℕ) (src : Bytes) (s : ℕ → Bool) → a ≤ e → e ≤ length src → parsed (slice a e src) ≡ accepted s
+    → Changes (slice a e src) g v to tail → textOf (g s) ≡ slice a (a + to) src ++ tailText tail v
+changed-text {to} {tail} {v} a e src s l w f c =
     let m : to ≤ e - a = omega (arith, c .inside, length-slice a e src w) in
-    let g : slice a (a + to) src ≡ take to (slice a e src) =
-    sym (part-slice a (a + to) src (omega arith)) ∙ ap (λ i. take i (drop a src)) d ∙ sym (take-take to (e - a) (drop a src) m) ∙ ap (take to) (part-slice a e src l) in
-    wrote-times (adding (n + 1) s) x (rw (c .becomes s f) (wrote-then (rw g at y) z)) q
+    let y : take to (slice a e src) ≡ slice a (a + to) src = ap (take to) (sym (part-slice a e src l)) ∙ take-take to (e - a) (drop a src) m ∙ sym (slice-part a to src) in
+    c .becomes s f ∙ ap (λ t. t ++ tailText tail v) y
 
 -- ---- the sets of all versions
 pub up-to-holds : {words : List ℕ} (n : ℕ) → setOf words ≡ upTo n → Holds n words (always n)

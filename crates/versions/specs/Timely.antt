@@ -2,10 +2,9 @@
 use Prim.Native.Nat.{ℕ, _+_, _%_, _<_, _≤_}
 use native.Mathlib.Omega.{arith}
 use mathlib.Core.Path.{_≡_, refl, sym, _∙_, ap}
-use mathlib.Core.Bool.{Bool, true, false}
+use mathlib.Core.Bool.{Bool, true}
 use mathlib.Core.List.{List}
 use lib.Dec.{eqb}
-use lib.ListN.{length}
 use borrow.Author.Tests.{eqb-true, eqb-false}
 use Rattle.xml.specs.Bytes.{Bytes}
 use Rattle.xml.specs.Forest.{Forest, elem, text, stamp}
@@ -33,11 +32,11 @@ pub record Timely (i : ℕ) (src cells : List ℕ) (lo hi : ℕ) : Type 0 where
   pub timed : AllTimed last forest
 
 -- a text of a set of some 1 to n versions
-pub record LegalText (s : Bytes) : Type 0 where
-  pub last : ℕ
-  pub small : last ≤ 999
-  pub text-is : canonical last s ≡ true
-  pub some-there : ever (timesIn last s) ≡ true
+record LegalText (s : Bytes) : Type 0 where
+  last : ℕ
+  small : last ≤ 999
+  text-is : canonical last s ≡ true
+  some-there : ever (timesIn last s) ≡ true
 
 -- it is read
 legal-read : (s : Bytes) → LegalText s → (u : ℕ → Bool) × (parsed s ≡ accepted u)
@@ -70,7 +69,7 @@ module _ {i : ℕ} {src cells : List ℕ} where
       record { last = x .last; reach = x .reach; small = x .small; forest = n .kids; tape = n .tape; timed = inner }
 
   -- a `T`'s text
-  pub timely-text : {p : ℕ} → Timely i src cells p (nextAt cells p) → p < nextAt cells p → headAt cells p % 4 ≡ 2 → LegalText (bytesAt src cells p)
+  timely-text : {p : ℕ} → Timely i src cells p (nextAt cells p) → p < nextAt cells p → headAt cells p % 4 ≡ 2 → LegalText (bytesAt src cells p)
   unfolding AllTimed
   timely-text x l k =
       let n = inner-node (x .tape) l (λ e. omega arith) in

@@ -5,7 +5,7 @@ use mathlib.Core.Path.{_≡_, refl, sym, _∙_, ap, ap₂, subst}
 use mathlib.Core.Bool.{Bool, true, false}
 use mathlib.Core.List.{List, [], _++_, append-assoc, append-nil}
 use lib.ListN.{length, getD, take, drop, length-append, List·getD-append}
-use lib.Seq.{slice, slice-empty, length-slice, take-all, take-take, getD-take, getD-drop, getD-append-add}
+use lib.Seq.{slice, slice-empty, length-slice, take-all, getD-take, getD-drop, getD-append-add}
 use Rattle.xml.specs.Bytes.{Bytes, bytes, same}
 use Rattle.xml.specs.Forest.{Forest, write}
 use Rattle.xml.specs.BytesLaws.{same-is, same-self}
@@ -13,7 +13,7 @@ use Rattle.xml.specs.Truth.{clash, not-so}
 use Rattle.xml.specs.Over.{over, Wrote}
 use Rattle.xml.specs.OverLaws.{length-at, wrote-over}
 use Rattle.xml.specs.Tape.{headAt, nextAt, Tape}
-use Rattle.xml.specs.TapeLaws.{bytesAt, slice-part, opening, closing}
+use Rattle.xml.specs.TapeLaws.{bytesAt, opening, closing}
 use Rattle.timestamp.specs.Times.{Times, always}
 use Rattle.timestamp.specs.TimesLaws.{bool-eq}
 use Rattle.timestamp.specs.Set.{none, upTo, cutAt, sameSet, isNone}
@@ -26,6 +26,7 @@ use Rattle.timestamp.specs.Place.{IsSet}
 use Rattle.timestamp.specs.Change.{Changes, tailText}
 use Rattle.versions.specs.Walk.{timesIn, backForest}
 use Rattle.versions.specs.ListedLaws.{times-listed, times-cut}
+use Rattle.versions.specs.TimedLaws.{changed-text}
 use Rattle.versions.specs.Rendered.{Renders}
 use Rattle.versions.specs.BackText.{backText, back-dropped, back-bare, back-wrapped, times-room, back-whole}
 
@@ -49,10 +50,6 @@ module _ {i : ℕ} {src : List ℕ} {a to tail : ℕ} (x : Trimmed i src a to ta
   pub trimmed-short : to + length (tailText tail i) ≤ 3000
   trimmed-short = omega (arith, text-short (x .set), ap length (x .text-is), length-cut)
 
-  -- its first part
-  pub part-room : {at r : ℕ} {out left : List ℕ} → Wrote out at (slice a (a + to) src) r left → r ≡ at + to
-  part-room w = omega (arith, w .place, length-slice a (a + to) src (x .inside))
-
   -- its length, by that of its tail
   pub cut-long : {n : ℕ} {free four : List ℕ} → Wrote free 0 (tailText tail i) n four → to + n ≡ length (cutText src a to tail i)
   cut-long w = omega (arith, w .place, length-cut)
@@ -66,11 +63,6 @@ module _ {i : ℕ} {src : List ℕ} {a to tail : ℕ} (x : Trimmed i src a to ta
   trimmed-room w = times-room (x .set) (rw (← x .text-is) at w)
 
 -- ---- the set of a text, cut at i
-take-part : (a e to : ℕ) (l : List ℕ) → a ≤ e → e ≤ length l → to ≤ length (slice a e l) → take to (slice a e l) ≡ slice a (a + to) l
-take-part a e to l h k b =
-    let z : a + (e - a) ≡ e = omega arith in
-    ap (λ (m : ℕ). take to (slice a m l)) (sym z) ∙ ap (take to) (slice-part a (e - a) l) ∙ take-take to (e - a) (drop a l) (omega (arith, length-slice a e l k)) ∙ sym (slice-part a to l)
-
 module _ (i : ℕ) (src : List ℕ) (a e to tail : ℕ) (h : a ≤ e) (k : e ≤ length src) (w : IsSet (slice a e src)) (c : Changes (slice a e src) (cutAt i) i to tail) where
   pub cut-trimmed : Trimmed i src a to tail
   cut-trimmed =
@@ -79,7 +71,7 @@ module _ (i : ℕ) (src : List ℕ) (a e to tail : ℕ) (h : a ≤ e) (k : e ≤
         known = c .known;
         set = cutAt i (w .s);
         only = only-cut 999 i (w .s) (text-parse (slice a e src) (w .s) (w .is) .1);
-        text-is = c .becomes (w .s) (w .is) ∙ ap (λ (t : Bytes). t ++ tailText tail i) (take-part a e to src h k (c .inside));
+        text-is = changed-text a e src (w .s) h k (w .is) c;
       }
 
   -- it has the same versions up to i

@@ -1,5 +1,6 @@
 // Writing an archive after a step back to version i: each `T`'s set is cut at i. What is cut to nothing is dropped, what is cut to the
 // set around it is bare, anything else is in a `T`.
+use crate::timed::put_changed;
 use timestamp::change::Change;
 use timestamp::change::cut_at;
 use timestamp::write::put_tail;
@@ -7,11 +8,9 @@ use xml::tape::is_run;
 use xml::tape::view_at;
 use xml::writer::put_close;
 use xml::writer::put_open;
-use xml::writer::put_part;
 use xml::writer::put_text;
 use xml::writer::put_word;
 ghost use mathlib.Core.Path.{_≡_};
-ghost use mathlib.Core.Bool.{false};
 ghost use mathlib.Core.List.{_++_};
 ghost use Prim.Native.Nat.{_+_, _*_, _-_, _%_, _^_, _<_, _≤_};
 ghost use lib.ListN.{getD, length};
@@ -20,24 +19,13 @@ ghost use Rattle.xml.specs.Bytes.{same};
 ghost use Rattle.xml.specs.Forest.{Forest, write as written};
 ghost use Rattle.xml.specs.Over.{Wrote};
 ghost use Rattle.xml.specs.Tape.{headAt, nextAt, Tape};
-ghost use Rattle.xml.specs.TapeLaws.{bytesAt, opening};
+ghost use Rattle.xml.specs.TapeLaws.{bytesAt};
 ghost use Rattle.timestamp.specs.Times.{always};
 ghost use Rattle.versions.specs.Walk.{timesIn, backForest};
 ghost use Rattle.versions.specs.Rendered.{Renders};
 ghost use Rattle.versions.specs.Timely.{Timely};
 ghost use Rattle.versions.specs.BackText.{backText};
 ghost use Rattle.walks.specs.Trimmed.{cutText, Trimmed};
-
-// Writes the opening tag of a `T` with a set's text cut at i: the first bytes of the text that begins at a, and the tail.
-fn put_cut(cut: Change, src: &[u8], a: usize, i: usize, out: &mut [u8], at: usize) -> usize
-    requires { ⌜ (1 ≤ i) × (i ≤ 999) × Trimmed i (now src) a (cut .to) (cut .tail) × (at < 2 ^ 60) ⌝ }
-    ensures { λ r. ⌜ Wrote (now (out .entry)) at (opening false (cutText (now (src .entry)) a (cut .to) (cut .tail) i)) r (now (out .exit)) ⌝ }
-{
-    let times = put_word(b"<T t=\"", out, at);
-    let tail = put_part(src, a, a + cut.to, out, times);
-    let last = put_tail(cut.tail, i, out, tail);
-    put_word(b"\">", out, last)
-}
 
 // The byte k of a text whose first `to` bytes begin at a, with the others in `tail`.
 fn byte_in(src: &[u8], a: usize, to: usize, tail: &[u8], k: usize) -> u8
@@ -124,7 +112,7 @@ fn back_node(
     if same_cut(src, a, around, start, cut, i) {
         return back_inside(src, tape, p + 1, v.next, i, start, cut, out, at);
     }
-    let inside = put_cut(cut, src, start, i, out, at);
+    let inside = put_changed(cut, src, start, i, out, at);
     let close = back_inside(src, tape, p + 1, v.next, i, start, cut, out, inside);
     put_close(false, src, start, end, out, close)
 }
@@ -165,7 +153,7 @@ pub fn back(src: &[u8], tape: &[u32], hi: usize, i: usize, out: &mut [u8], at: u
     let start = v.start;
     let end = v.end;
     let cut = cut_at(&src[start..end], i);
-    let inside = put_cut(cut, src, start, i, out, at);
+    let inside = put_changed(cut, src, start, i, out, at);
     let close = write_back(src, tape, 1, hi, i, start, cut, out, inside);
     put_word(b"</T>", out, close)
 }

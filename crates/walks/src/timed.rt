@@ -1,15 +1,22 @@
 // Writing an archive's `T`s.
 use timestamp::Timestamp;
+use timestamp::change::Change;
+use timestamp::write::put_tail;
+use xml::writer::put_part;
 use xml::writer::put_word;
 use xml::writer::write_at;
 ghost use mathlib.Core.Bool.{false};
+ghost use mathlib.Core.List.{_++_};
 ghost use Prim.Native.Nat.{_+_, _*_, _-_, _^_, _<_, _≤_};
+ghost use lib.ListN.{length};
+ghost use lib.Seq.{slice};
 ghost use Rattle.xml.specs.Over.{Wrote};
 ghost use Rattle.xml.specs.Forest.{Forest, end, stamp, write};
 ghost use Rattle.xml.specs.Tape.{Tape, Valid};
 ghost use Rattle.xml.specs.TapeLaws.{opening};
 ghost use Rattle.timestamp.specs.Set.{setOf};
 ghost use Rattle.timestamp.specs.Listed.{textOf};
+ghost use Rattle.timestamp.specs.Change.{tailText};
 ghost use Rattle.versions.specs.Walk.{newest};
 
 // Writes the opening tag of a `T` with this set.
@@ -19,6 +26,24 @@ pub fn put_times(set: Timestamp, out: &mut [u8], at: usize) -> usize
 {
     let times = put_word(b"<T t=\"", out, at);
     let last = set.put_text(out, times);
+    put_word(b"\">", out, last)
+}
+
+// Writes the opening tag of a `T` with a set's changed text: the first bytes of the text that begins at a, and the tail for m.
+pub fn put_changed(
+    change: Change,
+    src: &[u8],
+    a: usize,
+    m: usize,
+    out: &mut [u8],
+    at: usize,
+) -> usize
+    requires { ⌜ (a + change .to ≤ length (now src)) × (change .to + length (tailText (change .tail) m) ≤ 3000) × (change .tail < 4) × (1 ≤ m) × (m ≤ 999) × (at < 2 ^ 60) ⌝ }
+    ensures { λ r. ⌜ Wrote (now (out .entry)) at (opening false (slice a (a + change .to) (now (src .entry)) ++ tailText (change .tail) m)) r (now (out .exit)) ⌝ }
+{
+    let times = put_word(b"<T t=\"", out, at);
+    let tail = put_part(src, a, a + change.to, out, times);
+    let last = put_tail(change.tail, m, out, tail);
     put_word(b"\">", out, last)
 }
 

@@ -27,7 +27,7 @@ use Rattle.walks.proofs.back.write_back.Reads as write-back
 use Rattle.walks.proofs.back.write_back.Kinds as write-back-kinds
 use Rattle.walks.proofs.back.+back_inside+back_node+write_back.Lts-write_back as write-back-lts
 use Rattle.timestamp.proofs.change.cut_at.Reads as cut-at-reads
-use Rattle.walks.proofs.back.put_cut.Reads as put-cut-reads
+use Rattle.walks.proofs.timed.put_changed.Reads as put-changed-reads
 use Rattle.walks.proofs.back.same_cut.Reads as same-cut-reads
 use Rattle.xml.proofs.tape.is_run.Reads as is-run-reads
 use Rattle.xml.proofs.tape.view_at.Reads as view-at-reads
@@ -68,7 +68,7 @@ abbrev back-inside-calls : ℕ → back-inside-lts.Claims
 back-inside-calls t = (is-run-reads.Asked, is-run-reads.Learnt, view-at-reads.Asked, view-at-reads.Learnt, put-text-reads.Asked, put-text-reads.Learnt, write-back-below t, write-back.Post)
 
 abbrev back-node-calls : ℕ → back-node-lts.Claims
-back-node-calls t = (view-at-reads.Asked, view-at-reads.Learnt, put-text-reads.Asked, put-text-reads.Learnt, put-open-reads.Asked, put-open-reads.Learnt, back-inside-below t, back-inside.Post, put-close-reads.Asked, put-close-reads.Learnt, cut-at-reads.Asked, cut-at-reads.Learnt, same-cut-reads.Asked, same-cut-reads.Learnt, put-cut-reads.Asked, put-cut-reads.Learnt)
+back-node-calls t = (view-at-reads.Asked, view-at-reads.Learnt, put-text-reads.Asked, put-text-reads.Learnt, put-open-reads.Asked, put-open-reads.Learnt, back-inside-below t, back-inside.Post, put-close-reads.Asked, put-close-reads.Learnt, cut-at-reads.Asked, cut-at-reads.Learnt, same-cut-reads.Asked, same-cut-reads.Learnt, put-changed-reads.Asked, put-changed-reads.Learnt)
 
 abbrev write-back-calls : ℕ → write-back-lts.Claims
 write-back-calls t = (back-node-below t, back-node.Post, view-at-reads.Asked, view-at-reads.Learnt)
@@ -225,8 +225,10 @@ module _ (t : ℕ) where
       node-bare (c .before .before .before .before .before .before .before .before .before .before .before .before .before .before .before .before .before .before .args .tape .now) (c .before .before .before .before .before .before .before .before .before .before .before .before .before .before .before .before .before .before .args .p) (low (c .before .before .before .before .before .before .before .before .before .before .before .before .before .before .before .before .before .before)) (c .before .before .before .before .before .before .before .before .before .before .before .before .before .before .before .before .before .before .pre .1 .2) (c .before .before .before .before .before .before .before .before .before .before .before .before .before .before .before .before .before .before .pre .1 .3) (trim (c .before .before .before .before .before .before .before .before)) (c .before .before .before .before .before .before .before .before .before .before .before .before .before .before .before .before .before .before .pre .1 .0) (times (c .before .before .before .before .before .before .before .before .before .before)) (same-times (c .before .before .before .before .before .before .before .before)) (c .before .before .before .before .before .before .if3 .left)
       (sym (rw v at (c .before .before .before .before .before .same-cut .ensures)) ∙ c .before .before .before .before .if4 .taken) (rw v at (c .before .before .back-inside2 .ensures))
 
-  back-node-put-cut-requires : back-node-lts.Need-put-cut-requires (back-node-calls t) (back-node-at t) back-node.Post
-  back-node-put-cut-requires c κs = rw (c .before .before .before .before .before .before .before .before .before .before .before .view-at .ensures) (c .before .before .before .before .before .before .before .before .before .before .before .before .before .before .before .pre .1 .2, low (c .before .before .before .before .before .before .before .before .before .before .before .before .before .before .before), trim (c .before .before .before .before .before), omega (arith, c .before .before .before .before .before .before .before .before .before .before .before .before .before .before .before .pre .1 .4))
+  back-node-put-changed-requires : back-node-lts.Need-put-changed-requires (back-node-calls t) (back-node-at t) back-node.Post
+  back-node-put-changed-requires c κs =
+      let x = trim (c .before .before .before .before .before) in
+      rw (c .before .before .before .before .before .before .before .before .before .before .before .view-at .ensures) (x .inside, trimmed-short x, x .known, c .before .before .before .before .before .before .before .before .before .before .before .before .before .before .before .pre .1 .2, low (c .before .before .before .before .before .before .before .before .before .before .before .before .before .before .before), omega (arith, c .before .before .before .before .before .before .before .before .before .before .before .before .before .before .before .pre .1 .4))
 
   back-node-add-back-inside-3 : back-node-lts.Need-add-back-inside-3 (back-node-calls t) (back-node-at t) back-node.Post
   back-node-add-back-inside-3 c = omega (arith, here (c .before .before .before .before .before .before .before .before .before .before .before .before .before .before .before .before .before .before) .held, (c .before .before .before .before .before .before .before .before .before .before .before .before .before .before .before .before .before .before .good), (c .before .before .before .before .before .before .before .before .before .before .before .before .before .before .before .before .before .before .fits))
@@ -235,7 +237,7 @@ module _ (t : ℕ) where
   back-node-back-inside-requires-3 c κs =
       let v = c .before .before .before .before .before .before .before .before .before .before .before .before .before .before .before .view-at .ensures in
       let q = c .before .before .before .before .before .before .before .before .before .before .before .before .before .before .before .before .before .before .before .pre in
-      let o = trimmed-room (trim (c .before .before .before .before .before .before .before .before .before)) (rw v at (c .before .before .before .put-cut .ensures)) in
+      let o = trimmed-room (trim (c .before .before .before .before .before .before .before .before .before)) (rw v at (c .before .before .before .put-changed .ensures)) in
       rw v (omega (arith, q .0, q .1 .0), (timely-inside (q .1 .1) (q .1 .0) (rw v at (c .before .before .before .before .before .before .before .before .before .before .before .before .before .if1 .left)), q .1 .2, trim (c .before .before .before .before .before .before .before .before .before), omega (arith, q .1 .4, q .1 .0, o)))
 
   back-node-put-close-requires-2 : back-node-lts.Need-put-close-requires-2 (back-node-calls t) (back-node-at t) back-node.Post
@@ -244,7 +246,7 @@ module _ (t : ℕ) where
       let q = c .before .before .before .before .before .before .before .before .before .before .before .before .before .before .before .before .before .before .before .before .before .before .before .pre in
       let x = timely-inside (q .1 .1) (q .1 .0) (rw v at (c .before .before .before .before .before .before .before .before .before .before .before .before .before .before .before .before .before .if1 .left)) in
       let k = rw v at (c .before .before .before .back-inside3 .ensures) in
-      let o = trimmed-room (trim (c .before .before .before .before .before .before .before .before .before .before .before .before .before)) (rw v at (c .before .before .before .before .before .before .before .put-cut .ensures)) in
+      let o = trimmed-room (trim (c .before .before .before .before .before .before .before .before .before .before .before .before .before)) (rw v at (c .before .before .before .before .before .before .before .put-changed .ensures)) in
       rw v (omega (arith, here (c .before .before .before .before .before .before .before .before .before .before .before .before .before .before .before .before .before .before .before .before .before .before .before) .within, k (x .forest) (x .tape) .place, back-length (c .before .before .before .before .before .before .before .before .before .before .before .before .before .before .before .before .before .before .before .before .before .before .before .args .i) (inner (c .before .before .before .before .before .before .before .before .before .before .before .before .before)) x, q .1 .4, q .1 .0, o))
 
   back-node-same-length-4 : back-node-lts.Need-same-length-4 (back-node-calls t) (back-node-at t) back-node.Post
@@ -254,7 +256,7 @@ module _ (t : ℕ) where
   back-node-returns-5 c =
       let v = c .before .before .before .before .before .before .before .before .before .before .before .before .before .before .before .before .before .before .before .before .before .before .view-at .ensures in
       node-wrapped (c .before .before .before .before .before .before .before .before .before .before .before .before .before .before .before .before .before .before .before .before .before .before .before .before .before .before .args .tape .now) (c .before .before .before .before .before .before .before .before .before .before .before .before .before .before .before .before .before .before .before .before .before .before .before .before .before .before .args .p) (low (c .before .before .before .before .before .before .before .before .before .before .before .before .before .before .before .before .before .before .before .before .before .before .before .before .before .before)) (c .before .before .before .before .before .before .before .before .before .before .before .before .before .before .before .before .before .before .before .before .before .before .before .before .before .before .pre .1 .2) (c .before .before .before .before .before .before .before .before .before .before .before .before .before .before .before .before .before .before .before .before .before .before .before .before .before .before .pre .1 .3) (trim (c .before .before .before .before .before .before .before .before .before .before .before .before .before .before .before .before)) (c .before .before .before .before .before .before .before .before .before .before .before .before .before .before .before .before .before .before .before .before .before .before .before .before .before .before .pre .1 .0) (times (c .before .before .before .before .before .before .before .before .before .before .before .before .before .before .before .before .before .before)) (same-times (c .before .before .before .before .before .before .before .before .before .before .before .before .before .before .before .before)) (c .before .before .before .before .before .before .before .before .before .before .before .before .before .before .if3 .left)
-      (sym (rw v at (c .before .before .before .before .before .before .before .before .before .before .before .before .before .same-cut .ensures)) ∙ c .before .before .before .before .before .before .before .before .before .before .before .before .if4 .left) (rw v at (c .before .before .before .before .before .before .before .before .before .before .put-cut .ensures)) (rw v at (c .before .before .before .before .before .before .back-inside3 .ensures)) (rw v at (c .before .before .put-close2 .ensures))
+      (sym (rw v at (c .before .before .before .before .before .before .before .before .before .before .before .before .before .same-cut .ensures)) ∙ c .before .before .before .before .before .before .before .before .before .before .before .before .if4 .left) (rw v at (c .before .before .before .before .before .before .before .before .before .before .put-changed .ensures)) (rw v at (c .before .before .before .before .before .before .back-inside3 .ensures)) (rw v at (c .before .before .put-close2 .ensures))
 
 module _ (t : ℕ) where
   turn : (c : write-back-lts.In-loop (write-back-calls t) (write-back-at t) write-back.Post write-back-Inv-loop write-back-μ-loop) → Front (c .before .before .before .before .before .args .src .now) (c .before .before .before .before .before .args .tape .now) (c .before .loop .p) (c .before .before .before .before .before .args .hi)
@@ -297,5 +299,5 @@ pub +back-inside+back-node+write-back-spec : {M : Type 1} → statement M
 +back-inside+back-node+write-back-spec =
     close μ-back-inside μ-back-node μ-write-back
     (λ t. back-inside-lts.spec (back-inside-calls t) (back-inside-at t) back-inside.Post (back-inside-is-run-requires t) (back-inside-view-at-requires t) (back-inside-put-text-requires t) (back-inside-same-length t) (back-inside-returns t) (back-inside-write-back-requires t) (back-inside-same-length-2 t) (back-inside-returns-2 t))
-    (λ t. back-node-lts.spec (back-node-calls t) (back-node-at t) back-node.Post (back-node-view-at-requires t) (back-node-put-text-requires t) (back-node-same-length t) (back-node-returns t) (back-node-put-open-requires t) (back-node-add-back-inside t) (back-node-back-inside-requires t) (back-node-put-close-requires t) (back-node-same-length-2 t) (back-node-returns-2 t) (back-node-sub-cut-at t) (back-node-part-cut-at-start t) (back-node-part-cut-at-end t) (back-node-cut-at-requires t) (back-node-add-if3 t) (back-node-returns-3 t) (back-node-same-cut-requires t) (back-node-add-back-inside-2 t) (back-node-back-inside-requires-2 t) (back-node-same-length-3 t) (back-node-returns-4 t) (back-node-put-cut-requires t) (back-node-add-back-inside-3 t) (back-node-back-inside-requires-3 t) (back-node-put-close-requires-2 t) (back-node-same-length-4 t) (back-node-returns-5 t))
+    (λ t. back-node-lts.spec (back-node-calls t) (back-node-at t) back-node.Post (back-node-view-at-requires t) (back-node-put-text-requires t) (back-node-same-length t) (back-node-returns t) (back-node-put-open-requires t) (back-node-add-back-inside t) (back-node-back-inside-requires t) (back-node-put-close-requires t) (back-node-same-length-2 t) (back-node-returns-2 t) (back-node-sub-cut-at t) (back-node-part-cut-at-start t) (back-node-part-cut-at-end t) (back-node-cut-at-requires t) (back-node-add-if3 t) (back-node-returns-3 t) (back-node-same-cut-requires t) (back-node-add-back-inside-2 t) (back-node-back-inside-requires-2 t) (back-node-same-length-3 t) (back-node-returns-4 t) (back-node-put-changed-requires t) (back-node-add-back-inside-3 t) (back-node-back-inside-requires-3 t) (back-node-put-close-requires-2 t) (back-node-same-length-4 t) (back-node-returns-5 t))
     (λ t. write-back-lts.spec (write-back-calls t) (write-back-at t) write-back.Post write-back-Inv-loop write-back-μ-loop (write-back-loop-holds t) (write-back-back-node-requires t) (write-back-view-at-requires t) (write-back-loop-less t) (write-back-loop-again t) (write-back-same-length t) (write-back-returns t))

@@ -3,7 +3,7 @@ use Prim.Native.Nat.{ℕ, _≤_}
 use native.Mathlib.Omega.{arith}
 use mathlib.Core.Path.{_≡_, sym, _∙_, subst}
 use Rattle.xml.specs.Bytes.{bytes}
-use Rattle.xml.specs.Tape.{headAt, nextAt, startIn, endIn}
+use Rattle.xml.specs.Tape.{headAt, startIn, endIn}
 use Rattle.xml.specs.TapeLaws.{Front, bytesAt, front}
 use Rattle.timestamp.specs.Times.{Times}
 use Rattle.timestamp.specs.Set.{cutAt}
@@ -13,20 +13,20 @@ use Rattle.versions.specs.Walk.{timesIn}
 use Rattle.versions.specs.Rendered.{node-part}
 use Rattle.versions.specs.Timely.{Timely, timely-set, timely-whole}
 use Rattle.versions.specs.BackText.{back-length}
-use Rattle.walks.specs.Trimmed.{cutText, Trimmed, trimmed-room, cut-trimmed, cut-times, whole-back}
+use Rattle.walks.specs.Trimmed.{cutText, Trimmed, trimmed-short, trimmed-room, cut-trimmed, cut-times, whole-back}
 use borrow.Author.Needs.{needs}
 use Rattle.walks.proofs.back.back.Statement.{statement}
 use Rattle.walks.proofs.back.back.Tie as tie
 use Rattle.walks.proofs.back.back.Reads as reads
 use Rattle.walks.proofs.back.back.Lts as lts
 use Rattle.timestamp.proofs.change.cut_at.Reads as cut-at-reads
-use Rattle.walks.proofs.back.put_cut.Reads as put-cut-reads
+use Rattle.walks.proofs.timed.put_changed.Reads as put-changed-reads
 use Rattle.walks.proofs.back.write_back.Reads as write-back-reads
 use Rattle.xml.proofs.tape.view_at.Reads as view-at-reads
 use Rattle.xml.proofs.writer.put_word.Reads as put-word-reads
 
 abbrev calls : lts.Claims
-calls = (view-at-reads.Asked, view-at-reads.Learnt, cut-at-reads.Asked, cut-at-reads.Learnt, put-cut-reads.Asked, put-cut-reads.Learnt, write-back-reads.Asked, write-back-reads.Learnt, put-word-reads.Asked, put-word-reads.Learnt)
+calls = (view-at-reads.Asked, view-at-reads.Learnt, cut-at-reads.Asked, cut-at-reads.Learnt, put-changed-reads.Asked, put-changed-reads.Learnt, write-back-reads.Asked, write-back-reads.Learnt, put-word-reads.Asked, put-word-reads.Learnt)
 
 first : (c : lts.Start calls reads.Pre reads.Post) → Front (c .args .src .now) (c .args .tape .now) 0 (c .args .hi)
 first c = front (c .pre .3 .tape) (c .pre .0)
@@ -68,14 +68,16 @@ part-cut-at-end c = rw (c .view-at .ensures) (omega (arith, first (c .before .be
 cut-at-requires : tie.Need-cut-at-requires
 cut-at-requires c κs = rw (c .before .view-at .ensures, node-part (c .before .before .before .before .before .args .src .now) (c .before .before .before .before .before .args .tape .now) 0) (outer-set (c .before .before .before .before .before))
 
-put-cut-requires : tie.Need-put-cut-requires
-put-cut-requires c κs = rw (c .before .before .before .view-at .ensures) (c .before .before .before .before .before .before .before .pre .4, low (c .before .before .before .before .before .before .before), trim (c .before), omega (arith, c .before .before .before .before .before .before .before .pre .6))
+put-changed-requires : tie.Need-put-changed-requires
+put-changed-requires c κs =
+    let x = trim (c .before) in
+    rw (c .before .before .before .view-at .ensures) (x .inside, trimmed-short x, x .known, c .before .before .before .before .before .before .before .pre .4, low (c .before .before .before .before .before .before .before), omega (arith, c .before .before .before .before .before .before .before .pre .6))
 
 write-back-requires : tie.Need-write-back-requires
 write-back-requires c κs =
     let v = c .before .before .before .before .before .before .before .view-at .ensures in
     let q = c .before .before .before .before .before .before .before .before .before .before .before .pre in
-    let o = trimmed-room (trim (c .before .before .before .before .before)) (rw v at (c .before .before .before .put-cut .ensures)) in
+    let o = trimmed-room (trim (c .before .before .before .before .before)) (rw v at (c .before .before .before .put-changed .ensures)) in
     rw v (timely-whole (q .3) (q .0) (q .1) (q .2), q .4, trim (c .before .before .before .before .before), omega (arith, q .0, q .6, o))
 
 slice-aggregate-put-word : tie.Need-slice-aggregate-put-word
@@ -85,7 +87,7 @@ put-word-requires : tie.Need-put-word-requires
 put-word-requires c κs =
     let v = c .before .before .before .before .before .before .before .before .before .before .before .before .view-at .ensures in
     let q = c .before .before .before .before .before .before .before .before .before .before .before .before .before .before .before .before .pre in
-    let o = trimmed-room (trim (c .before .before .before .before .before .before .before .before .before .before)) (rw v at (c .before .before .before .before .before .before .before .before .put-cut .ensures)) in
+    let o = trimmed-room (trim (c .before .before .before .before .before .before .before .before .before .before)) (rw v at (c .before .before .before .before .before .before .before .before .put-changed .ensures)) in
     let x = timely-whole (q .3) (q .0) (q .1) (q .2) in
     let k = rw v at (c .before .before .before .before .write-back .ensures) in
     omega (arith, q .0, q .6, o, k (x .forest) (x .tape) .place, back-length (c .before .before .before .before .before .before .before .before .before .before .before .before .before .before .before .before .args .i) (inner (c .before .before .before .before .before .before .before .before .before .before)) x)
@@ -98,7 +100,7 @@ unfolding bytes
 returns c =
     let v = c .before .before .before .before .before .before .before .before .before .before .before .before .before .before .before .view-at .ensures in
     let q = c .before .before .before .before .before .before .before .before .before .before .before .before .before .before .before .before .before .before .before .pre in
-    whole-back (low (c .before .before .before .before .before .before .before .before .before .before .before .before .before .before .before .before .before .before .before)) (q .4) (trim (c .before .before .before .before .before .before .before .before .before .before .before .before .before)) (same-times (c .before .before .before .before .before .before .before .before .before .before .before .before .before) ∙ q .5) (q .0) (q .1) (q .2) (rw v at (c .before .before .before .before .before .before .before .before .before .before .before .put-cut .ensures)) (rw v at (c .before .before .before .before .before .before .before .write-back .ensures)) (c .before .before .put-word .ensures)
+    whole-back (low (c .before .before .before .before .before .before .before .before .before .before .before .before .before .before .before .before .before .before .before)) (q .4) (trim (c .before .before .before .before .before .before .before .before .before .before .before .before .before)) (same-times (c .before .before .before .before .before .before .before .before .before .before .before .before .before) ∙ q .5) (q .0) (q .1) (q .2) (rw v at (c .before .before .before .before .before .before .before .before .before .before .before .put-changed .ensures)) (rw v at (c .before .before .before .before .before .before .before .write-back .ensures)) (c .before .before .put-word .ensures)
 
 pub back-spec : {M : Type 1} → statement M
 back-spec =
@@ -109,7 +111,7 @@ back-spec =
     part-cut-at-start
     part-cut-at-end
     cut-at-requires
-    put-cut-requires
+    put-changed-requires
     write-back-requires
     slice-aggregate-put-word
     put-word-requires
