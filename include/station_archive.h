@@ -11,8 +11,8 @@
  * The caller owes what C cannot check: each pointer is to as many bytes as the length beside it says, and
  * neither out nor *length overlaps anything else that the call is lent. The texts are only read.
  * The calls keep no state and allocate nothing, and of C's library use memcpy and memset alone. Their work cells
- * (64 KiB) and the draft of an add (32 KiB) are on the caller's stack, of which an add takes some 127 KB at most and
- * any other call some 93 KB (measured, not proved: 126,271 and 92,335 bytes in tests/bench, with key levels and
+ * (64 KiB) and the draft of an add (32 KiB) are on the caller's stack, of which an add takes some 123 KB at most and
+ * any other call some 87 KB (measured, not proved: 122,751 and 86,015 bytes in tests/bench, with key levels and
  * elements as deep as they may be).
  */
 #ifndef STATION_ARCHIVE_H
