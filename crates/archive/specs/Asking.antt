@@ -18,7 +18,6 @@ use Rattle.keys.specs.Loading.{Tabled}
 use Rattle.versions.specs.Archive.{lastVersion}
 use Rattle.versions.specs.Calls.{atMost, give}
 use Rattle.versions.specs.Walk.{forestLegal, archiveRead}
-use Rattle.versions.specs.AllTimed.{legal-last}
 use Rattle.versions.specs.Timely.{Timely, legal-timely}
 use Rattle.legality.specs.Opened.{ArchiveOn}
 use Rattle.archive.specs.Giving.{Gives, step-ok, test-refused, test-passed}
@@ -71,10 +70,6 @@ reaches-short {src} {i = i} w s x f t =
 pub opened-lies : {keyText : Bytes} {table : List ℕ} {paths : ℕ} {src cells : List ℕ} {hi n : ℕ} → Tabled keyText table paths
     → ((K : KeyList) → Table keyText table paths K → ArchiveOn K src cells hi n) → Lies src cells hi n
 opened-lies t x = record { keys = t .keys; archive = x (t .keys) (t .table) }
-
--- its versions are 999 at most
-pub lies-few : {src cells : List ℕ} {hi n : ℕ} → Lies src cells hi n → n ≤ 999
-lies-few x = subst (λ k. k ≤ 999) (x .archive .last) (legal-last (x .keys) (x .archive .forest) (x .archive .legal))
 
 -- the steps under a key list, from the last ones
 pub asked-given : (w : Forest → Bytes) (i : ℕ) {K : KeyList} {src cells : List ℕ} {hi n number size : ℕ} {out left : List ℕ} → ArchiveOn K src cells hi n

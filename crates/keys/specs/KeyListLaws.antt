@@ -1,17 +1,15 @@
 -- Laws of key lists: names and paths are compared exactly; implied paths are frontiers; nothing beneath a frontier is listed.
-use Prim.Native.Nat.{ℕ}
 use Prim.Native.Char.{code}
-use native.Mathlib.Omega.{arith}
 use mathlib.Core.Path.{_≡_, refl, sym, _∙_, ap, ap₂, subst}
-use mathlib.Core.Bool.{Bool, true, false, not, _&&_, _||_, Bool·not-not}
+use mathlib.Core.Bool.{Bool, true, false, not, _&&_, Bool·not-not}
 use mathlib.Core.Logic.{_⊎_, inl, inr, ⊎-elim}
 use mathlib.Core.List.{List, [], _∷_, _++_, map, flatMap, List·Memᴰ, List·Memᴰ·head, List·Memᴰ·tail, List·Memᴰ·not-nil, List·Memᴰ·append-cases, List·Memᴰ·eq-of-singleton, Memᴰ·append-left, Memᴰ·append-right, Memᴰ·cast, Memᴰ·map, Memᴰ·of-map}
 use lib.Dec.{eqb, leb}
 use lib.ListN.{length}
-use borrow.Author.Tests.{eqb-true, eq-eqb, not-true, not-false}
+use borrow.Author.Tests.{not-true, not-false}
 use Rattle.model.specs.Masks.{clash}
-use Rattle.xml.specs.Bytes.{Bytes, bytes, any, all, sameBy, same, distinct, split}
-use Rattle.keys.specs.Result.{Refusal, r3, r4, Result, refused, ok, _>>=_, _>>_, refuse}
+use Rattle.xml.specs.Bytes.{Bytes, bytes, any, all, same, distinct, split}
+use Rattle.keys.specs.Result.{r3, r4, ok}
 use Rattle.keys.specs.KeyList.{Path, Key, KeyList, samePath, path, implied, paths, contextsKnown, firstBare, rulesKept, linesOf, keysOf, contextsInNotation, keyList, listed, continues, frontier, above, keyNamesAt}
 use Rattle.keys.specs.Version.{_▸_}
 use Rattle.xml.specs.BytesLaws.{sameBy-is, sameBy-self, same-is, same-self}
@@ -195,10 +193,6 @@ no-names (k ∷ K) q h =
 module _ (K : KeyList) (q : Path) (n : Bytes) (u : rulesKept K ≡ true) (e : any (same n) (keyNamesAt K q) ≡ true) where
   pub no-line-here : (k : Key) → List·Memᴰ k K → q ▸ n ≡ path k → ⊥
   no-line-here k m p = let t = line-of K q n e in line-implied (rules K u .once) m p (t .1) (t .3)
-
-  pub key-listed : listed K (q ▸ n) ≡ true
-  unfolding listed
-  key-listed = let t = line-of K q n e in mem-any (samePath (q ▸ n)) (mem-paths (t .1) (List·Memᴰ·tail (t .3))) (samePath-self (q ▸ n))
 
   pub key-bare : keyNamesAt K (q ▸ n) ≡ []
   key-bare = no-names K (q ▸ n) no-line-here

@@ -26,7 +26,6 @@ pub mod TreeLaws
 pub mod Places
 pub mod PlaceLaws
 pub mod TableLaws
-pub mod PartLaws
 pub mod Notation
 pub mod SpellLaws
 pub mod NotationLaws

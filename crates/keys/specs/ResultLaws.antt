@@ -3,8 +3,7 @@ use Prim.Native.Nat.{ℕ}
 use native.Mathlib.Omega.{arith}
 use mathlib.Core.Path.{_≡_, refl}
 use mathlib.Core.Bool.{Bool, true, false}
-use mathlib.Core.Option.{Option, none, some}
-use Rattle.keys.specs.Result.{Refusal, Result, refused, ok, _>>=_, _>>_, refuse, orRefuse, refusedAs}
+use Rattle.keys.specs.Result.{Refusal, Result, refused, ok, _>>=_, _>>_, refuse, refusedAs}
 
 pub refused-ok : {A B : Type 0} {n : Refusal} {a : A} → refused n ≡ ok a → B
 refused-ok e = let z : _≡_ {A = ℕ} 0 1 = cc in absurd (omega arith)
@@ -16,14 +15,6 @@ pub bind-inv : {A B : Type 0} (r : Result A) (f : A → Result B) (b : B) → (r
 bind-inv (ok a) f b e = (a, refl, e)
 bind-inv (refused n) f b e = refused-ok e
 
-pub then-inv : {B : Type 0} (r : Result (Unit {0})) (s : Result B) (b : B) → (r >> s) ≡ ok b → (r ≡ ok tt) × (s ≡ ok b)
-then-inv (ok a) s b e = (refl, e)
-then-inv (refused n) s b e = refused-ok e
-
-pub refuse-inv : (n : Refusal) (x : Bool) → refuse n x ≡ ok tt → x ≡ false
-refuse-inv n false e = refl
-refuse-inv n true e = refused-ok e
-
 -- a refusal's test that fails, and the rest of the block
 pub passed : {B : Type 0} (n : Refusal) (x : Bool) (s : Result B) (b : B) → (refuse n x >> s) ≡ ok b → (x ≡ false) × (s ≡ ok b)
 passed n false s b e = (refl, e)
@@ -32,10 +23,6 @@ passed n true s b e = refused-ok e
 -- and back
 pub pass : {B : Type 0} (n : Refusal) {x : Bool} (s : Result B) → x ≡ false → (refuse n x >> s) ≡ s
 pass n s e = rw e
-
-pub orRefuse-inv : {A : Type 0} (n : Refusal) (o : Option A) (a : A) → orRefuse n o ≡ ok a → o ≡ some a
-orRefuse-inv n none a e = refused-ok e
-orRefuse-inv n (some b) a e = cc
 
 pub refusedAs-inv : {A : Type 0} (n : Refusal) (r : Result A) (a : A) → refusedAs n r ≡ ok a → r ≡ ok a
 refusedAs-inv n (refused m) a e = refused-ok e

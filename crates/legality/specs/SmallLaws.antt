@@ -105,12 +105,6 @@ module _ (K : KeyList) (n : ℕ) (some-there : 1 ≤ n) (not-more : n ≤ 999) (
       let z : suc (j - 1) ≡ j = omega arith in
       rw z at (version-small d (j - 1) (omega arith)))
 
-  pub all-small-is : allSmall n f ≡ (leb (depth f) 16 && all (sizesFit f) (upFrom 1 n))
-  all-small-is =
-      by-test (ltb 16 (depth f))
-      (λ e. let d = ltb-true 16 (depth f) e in small-deep d ∙ sym (rw (lt-leb (depth f) 16 d) refl))
-      (λ e. let d = ltb-false 16 (depth f) e in small-flat d ∙ sym (rw (le-leb (depth f) 16 d) refl))
-
   -- ---- as the walk has it
   pub small-stopped : stops 16 false f ≡ true → allSmall n f ≡ false
   small-stopped e = small-deep (ltb-true 16 (depth f) (sym (layered-stops n false (always n) f 16 layers) ∙ e))

@@ -1,21 +1,21 @@
 -- The least member of a set from a number on: what determines it, and how words give it, by the lowest bit of the first that is not 0.
 use Prim.Native.Nat.{ℕ, zero, suc, _+_, _-_, _*_, _/_, _%_, _^_, _≤_, _<_}
-use mathlib.Core.Path.{_≡_, refl, sym, ap, _∙_, fun-ext}
+use mathlib.Core.Path.{_≡_, refl, sym, ap, _∙_}
 use mathlib.Core.List.{List}
-use mathlib.Core.Bool.{Bool, true, false, _&&_, and-false, and-true}
+use mathlib.Core.Bool.{Bool, true, false}
 use native.Mathlib.Omega.{arith}
-use native.Mathlib.Decide.{decLt, decLe}
+use native.Mathlib.Decide.{decLt}
 use native.Mathlib.Nat.{pow-suc, div-one}
 use lib.Count.{trailingZeros, under}
-use lib.Dec.{eqb, leb}
-use lib.ListN.{getD, length}
+use lib.Dec.{eqb}
+use lib.ListN.{getD}
 use lib.Pow.{shr-shr}
-use borrow.Author.Tests.{le-leb, lt-leb, eqb-true, eq-eqb}
-use Rattle.xml.specs.Truth.{bool-by, clash, not-so}
+use borrow.Author.Tests.{eqb-true, eq-eqb}
+use Rattle.xml.specs.Truth.{bool-by}
 use Rattle.timestamp.specs.Bits.{bit, bit-zero, bit-suc, bit-none}
 use Rattle.timestamp.specs.TimesLaws.{bool-eq}
-use Rattle.timestamp.specs.Set.{setOf, none, isNone, outside, cutAt, sameSet, firstIn}
-use Rattle.timestamp.specs.Words.{past, notAt, not-bit}
+use Rattle.timestamp.specs.Set.{setOf, none, isNone, outside, firstIn}
+use Rattle.timestamp.specs.Words.{notAt, not-bit}
 use Rattle.timestamp.specs.Tests.{same-tells, same-told}
 
 module _ (s : ℕ → Bool) where
@@ -141,25 +141,3 @@ word-is w k u e = ap (λ (n : ℕ). bit (getD w n 0) (u % 64)) e
 
 pub gap-is : (w : List ℕ) (k : ℕ) → k < 16 → (u : ℕ) → u / 64 ≡ k → outside (setOf w) u ≡ bit (notAt w k) (u % 64)
 gap-is w k h u e = sym (not-bit w u (omega arith)) ∙ ap (λ (n : ℕ). bit (notAt w n) (u % 64)) e
-
--- ---- a set cut at i, by its least member above i
--- with none there it stays as it is
-pub cut-none : (w : List ℕ) (i : ℕ) → length w ≡ 16 → firstIn (1024 - (i + 1)) (setOf w) (i + 1) ≡ 1024 → setOf w ≡ cutAt i (setOf w)
-cut-none w i lw e = fun-ext (λ v. go v (decLe v i) (decLt v 1024))
-  where
-    out : (v : ℕ) → setOf w v ≡ false → setOf w v ≡ (setOf w v && leb v i)
-    out v x = x ∙ sym (ap (λ (b : Bool). b && leb v i) x)
-
-    go : (v : ℕ) → Dec (v ≤ i) → Dec (v < 1024) → setOf w v ≡ (setOf w v && leb v i)
-    go v (yes q) d = sym (ap (_&&_ (setOf w v)) (le-leb v i q) ∙ and-true (setOf w v))
-    go v (no q) (yes d) = out v (first-before (setOf w) (1024 - (i + 1)) (i + 1) v (omega arith) (omega (arith, e)))
-    go v (no q) (no d) = out v (past w lw v (omega arith))
-
--- with one there it does not
-pub cut-some : (s : ℕ → Bool) (i : ℕ) → i < 1023 → (firstIn (1024 - (i + 1)) s (i + 1) ≡ 1024 → ⊥) → sameSet (cutAt i s) s ≡ false
-cut-some s i h ne =
-    let m = firstIn (1024 - (i + 1)) s (i + 1) in
-    let lo : i + 1 ≤ m = first-low s (1024 - (i + 1)) (i + 1) in
-    let hi : m < 1024 = omega (arith, ne, first-high s (1024 - (i + 1)) (i + 1)) in
-    not-so (sameSet (cutAt i s) s) (λ e. clash (sym (first-member s (1024 - (i + 1)) (i + 1) (omega arith)) ∙ sym (same-tells (cutAt i s) s e m hi)
-    ∙ ap (_&&_ (s m)) (lt-leb m i (omega arith)) ∙ and-false (s m)))

@@ -2,20 +2,19 @@
 use Prim.Native.Nat.{ℕ, zero, suc, _+_, _-_, _≤_, _<_}
 use mathlib.Core.Path.{_≡_, refl, sym, ap, ap₂, _∙_, fun-ext}
 use mathlib.Core.List.{[], _∷_, _++_, map}
-use mathlib.Core.Bool.{Bool, true, false, _&&_, _||_, and-true}
+use mathlib.Core.Bool.{Bool, true, false, _||_}
 use native.Mathlib.Omega.{arith}
-use native.Mathlib.Nat.{le-trans}
 use native.Mathlib.Decide.{decLt, decLe}
 use lib.Dec.{leb}
-use lib.ListN.{length, getD, take, replicate}
+use lib.ListN.{length, getD, replicate}
 use borrow.Author.Tests.{eq-eqb, ne-eqb, le-leb, leb-true}
-use Rattle.xml.specs.Bytes.{Bytes, bytes}
+use Rattle.xml.specs.Bytes.{Bytes}
 use Rattle.xml.specs.Truth.{clash, not-so, and-left, and-right, and-both}
-use Rattle.timestamp.specs.Times.{Times, sameTimes, onlyAfter, always, upFrom, decimal, writeRun, writeTimes, belongs, times-compute}
-use Rattle.timestamp.specs.TimesLaws.{times-is, times-self, bool-eq, or-by, same-or, belongs-times, write-lacks, write-none, write-always}
-use Rattle.timestamp.specs.Set.{none, upTo, adding, between, cutAt, joined, sameSet}
+use Rattle.timestamp.specs.Times.{Times, sameTimes, onlyAfter, always, upFrom, writeTimes, belongs}
+use Rattle.timestamp.specs.TimesLaws.{times-is, times-self, bool-eq, or-by, same-or, belongs-times, write-lacks, write-none}
+use Rattle.timestamp.specs.Set.{none, upTo, adding, cutAt, joined, sameSet}
 use Rattle.timestamp.specs.Tests.{same-tells, same-told}
-use Rattle.timestamp.specs.Runs.{length-from, getD-from, from-cong, from-snoc, from-take, from-always}
+use Rattle.timestamp.specs.Runs.{length-from, getD-from, from-cong, from-snoc, from-always}
 
 -- which of the versions 1 to n are in the set
 unfoldable pub listed : ℕ → (ℕ → Bool) → Times
@@ -97,19 +96,11 @@ listed-up-to n = listed-cong n (upTo n) (λ v. true) (λ v a b. and-both (leb 1 
 pub only-up-to : (n : ℕ) → Only n (upTo n)
 only-up-to n v e = (leb-true 1 v (and-left (leb 1 v) (leb v n) e), leb-true v n (and-right (leb 1 v) (leb v n) e))
 
--- cutting
-pub listed-cut : (n i : ℕ) (s : ℕ → Bool) → i ≤ n → listed i (cutAt i s) ≡ take i (listed n s)
-unfolding listed
-listed-cut n i s h = listed-cong i (cutAt i s) s (λ v a b. ap (λ (x : Bool). s v && x) (le-leb v i b) ∙ and-true (s v)) ∙ sym (from-take s 1 n i h)
-
 pub only-cut : (n i : ℕ) (s : ℕ → Bool) → Only n s → Only i (cutAt i s)
 only-cut n i s o v e = (o v (and-left (s v) (leb v i) e) .0, leb-true v i (and-right (s v) (leb v i) e))
 
 pub only-joined : (n : ℕ) (s t : ℕ → Bool) → Only n s → Only n t → Only n (joined s t)
 only-joined n s t o o′ v e = or-by (s v) (t v) e (λ x. o v x) (λ x. o′ v x)
-
-pub only-between : (lo hi : ℕ) → 1 ≤ lo → Only hi (between lo hi)
-only-between lo hi l v e = (le-trans l (leb-true lo v (and-left (leb lo v) (leb v hi) e)), leb-true v hi (and-right (leb lo v) (leb v hi) e))
 
 pub only-none : (n : ℕ) → Only n none
 only-none n v e = clash (sym e)
@@ -144,15 +135,6 @@ text-inj s t o o′ e =
 -- the text of 1 to n is `1-n`, of 1 alone `1`
 pub text-up-to : (n : ℕ) → n ≤ 999 → textOf (upTo n) ≡ writeTimes (always n)
 text-up-to n h = text-listed n (upTo n) h (only-up-to n) ∙ ap writeTimes (listed-up-to n)
-
-pub text-one : textOf (upTo 1) ≡ bytes "1"
-unfolding times-compute
-text-one = text-up-to 1 (omega arith)
-
-pub text-many : (n : ℕ) → 2 ≤ n → n ≤ 999 → textOf (upTo n) ≡ bytes "1-" ++ decimal n
-unfolding times-compute
-text-many zero l h = absurd (omega arith)
-text-many (suc n) l h = text-up-to (suc n) h ∙ write-always n ∙ rw (ne-eqb 1 (suc n) (λ e. omega arith), writeRun)
 
 pub text-none : textOf none ≡ []
 unfolding textOf

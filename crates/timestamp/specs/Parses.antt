@@ -17,7 +17,7 @@ use Rattle.timestamp.specs.First.{first-before}
 use Rattle.timestamp.specs.Runs.{Asc, inRuns, rest, asc-runs, below-runs, above-runs, runs-back}
 use Rattle.timestamp.specs.Listed.{listed, textOf, Only, listed-length, listed-at, only-zero, only-past, only-up-to, belongs-listed, text-none}
 use Rattle.timestamp.specs.Digits.{text, text-joined}
-use Rattle.timestamp.specs.Parse.{Outcome, refused, accepted, numbersIn, parsed, pickOutcome}
+use Rattle.timestamp.specs.Parse.{Outcome, refused, accepted, numbersIn, parsed}
 use Rattle.timestamp.specs.Reading.{readIn}
 use Rattle.timestamp.specs.Accepts.{runs-accepted}
 use Rattle.timestamp.specs.Sound.{accepted-runs}
@@ -134,12 +134,3 @@ text-first l s e = go (decLe (firstIn 1024 s 0) 999)
     go : Dec (firstIn 1024 s 0 ≤ 999) → firstIn 1024 s 0 ≤ 999
     go (yes h) = h
     go (no h) = absurd (text-parse l s e .2 (text-parse l s e .0 ∙ ap textOf (empty (omega arith)) ∙ text-none))
-
--- what the code's answer tells
-pub outcome-ok : (b : Bool) (s : ℕ → Bool) (l : Bytes) → pickOutcome b s ≡ parsed l → b ≡ true → parsed l ≡ accepted s
-outcome-ok true s l e t = sym e
-outcome-ok false s l e t = clash (sym t)
-
-pub outcome-not : (b : Bool) (s : ℕ → Bool) (l : Bytes) → pickOutcome b s ≡ parsed l → b ≡ false → parsed l ≡ refused
-outcome-not true s l e t = clash t
-outcome-not false s l e t = sym e

@@ -1,17 +1,17 @@
 -- One pass over the words decides whether two sets agree, and what the answer tells.
 use Prim.Native.Nat.{ℕ, zero, suc, _+_, _*_, _/_, _%_, _^_, _<_}
-use mathlib.Core.Path.{_≡_, refl, sym, ap, _∙_, fun-ext}
+use mathlib.Core.Path.{_≡_, refl, sym, ap, _∙_}
 use mathlib.Core.List.{List}
 use mathlib.Core.Bool.{Bool, true, false, _&&_, Bool·beq}
 use native.Mathlib.Omega.{arith}
 use native.Mathlib.Decide.{decLt}
 use lib.Bits.{and-lt}
-use lib.ListN.{length, getD}
+use lib.ListN.{getD}
 use Rattle.xml.specs.Truth.{clash, not-so, and-left, and-right, and-both}
 use Rattle.timestamp.specs.TimesLaws.{beq-is, beq-self}
 use Rattle.timestamp.specs.Bits.{bit, bit-and, bits-ext}
 use Rattle.timestamp.specs.Set.{setOf, none, every, sameSet, shared, apart, subset}
-use Rattle.timestamp.specs.Words.{andAt, past}
+use Rattle.timestamp.specs.Words.{andAt}
 
 pub every-all : (n : ℕ) (p : ℕ → Bool) → ((v : ℕ) → v < n → p v ≡ true) → every n p ≡ true
 unfolding every
@@ -51,14 +51,6 @@ subset-told s t h = same-told (shared s t) s (λ v l. only (s v) (t v) (h v l))
     only : (a b : Bool) → (a ≡ true → b ≡ true) → (a && b) ≡ a
     only true b f = f refl
     only false b f = refl
-
--- of two timestamps: the sets are equal
-pub same-sets : (a b : List ℕ) → length a ≡ 16 → length b ≡ 16 → sameSet (setOf a) (setOf b) ≡ true → setOf a ≡ setOf b
-same-sets a b la lb e = fun-ext (λ v. go v (decLt v 1024))
-  where
-    go : (v : ℕ) → Dec (v < 1024) → setOf a v ≡ setOf b v
-    go v (yes q) = same-tells (setOf a) (setOf b) e v q
-    go v (no q) = past a la v (omega arith) ∙ sym (past b lb v (omega arith))
 
 -- ---- words that agree, and a word that differs
 module _ (f g : ℕ → ℕ) (s t : ℕ → Bool)

@@ -1,5 +1,5 @@
 -- The siblings of a legal archive, and those of a legal version, are such as a program can add.
-use Prim.Native.Nat.{ℕ, _≤_}
+use Prim.Native.Nat.{ℕ}
 use mathlib.Core.Path.{_≡_, refl, sym, _∙_, ap}
 use mathlib.Core.Bool.{Bool, true, false, not, _&&_, _||_}
 use mathlib.Core.Option.{some}
@@ -10,20 +10,13 @@ use Rattle.xml.specs.Bytes.{Bytes, bytes, all, same}
 use Rattle.xml.specs.Forest.{Forest, end, elem, text, stamp}
 use Rattle.xml.specs.Read.{isEnd}
 use Rattle.xml.specs.Truth.{clash, and-left, and-right, and-both, or-left, or-right}
-use Rattle.model.specs.Keyed.{Roof}
-use Rattle.model.specs.Orders.{labels}
-use Rattle.model.specs.Stored.{maskG, WFS}
 use Rattle.keys.specs.KeyList.{Path, KeyList, listed, above, keyNamesAt, rulesKept}
 use Rattle.keys.specs.KeyListLaws.{front-bare}
 use Rattle.keys.specs.Version.{_▸_, called, isOneValue, label, misplaced, unkeyed}
-use Rattle.keys.specs.Tree.{contents}
 use Rattle.keys.specs.Legal.{LegalVersion, untimed}
 use Rattle.keys.specs.Labelled.{hasKeys}
 use Rattle.keys.specs.PlaceLaws.{place-top}
 use Rattle.timestamp.specs.Times.{Times, sameTimes}
-use Rattle.versions.specs.Archive.{Archive, stamped}
-use Rattle.versions.specs.Lawful.{LawfulArchive}
-use Rattle.versions.specs.TreeSiblings.{tree-siblings}
 use Rattle.versions.specs.Walk.{timesIn, canonical, ever, within, branchesIn, allTimed, apart, contentsApart, together, frontLegal, isSole, firstLabel, precedes, siblingsLegal}
 use Rattle.versions.specs.AddParts.{LegalSet, BranchesIn, no-branch, branch, FrontIn, SiblingsIn, no-sibling, bare, timed, VersionIn, no-element, element}
 
@@ -89,11 +82,6 @@ siblings-in K n p t (elem m k r) e =
 siblings-in K n p t (stamp s k r) e =
     let x = eight (isSole k) (canonical n s) (ever (timesIn n s)) (within (timesIn n s) t) (not (sameTimes (timesIn n s) t)) (siblingsLegal K n p (timesIn n s) k) (precedes (firstLabel K p k) (firstLabel K p r)) (siblingsLegal K n p t r) e in
     sole-timed (x .0) (x .1) (siblings-in K n p (timesIn n s) k (x .2)) (siblings-in K n p t r (x .3))
-
--- those of an archive's tree
-pub stamped-in : (K : KeyList) (n : ℕ) (p : Path) (t : Times) (a : Archive) → rulesKept K ≡ true → n ≤ 999 → length t ≡ n → WFS labels contents n a → LawfulArchive K n p a → Roof (maskG n) t a
-    → SiblingsIn K n p (stamped n t a)
-stamped-in K n p t a u b l w h o = siblings-in K n p t (stamped n t a) (tree-siblings K n p t a u b l w h o)
 
 -- ---- the version's
 four-or : (a b c d : Bool) → (a || b || c || d) ≡ false → (a ≡ false) × (c ≡ false) × (d ≡ false)

@@ -22,9 +22,9 @@ use Rattle.keys.specs.Version.{_▸_, nameIn, label, called, isOneValue}
 use Rattle.keys.specs.Tree.{Content, inner, front, contents}
 use Rattle.keys.specs.Legal.{untimed, Kind, Lawful}
 use Rattle.timestamp.specs.Times.{Times, sameTimes, always, writeTimes, lastNumber}
-use Rattle.versions.specs.Archive.{Archive, wrap, branches, holding, stamped, archiveForest, lastVersion}
+use Rattle.versions.specs.Archive.{Archive, wrap, branches, holding, stamped, lastVersion}
 use Rattle.versions.specs.Walk.{timesIn, canonical, ever, within, branchesIn, allTimed, contentsApart, apart, together, frontLegal, isSole, firstLabel, precedes, siblingsLegal, allSmall, forestLegal}
-use Rattle.versions.specs.Lawful.{InnerEntry, FrontEntry, LawfulArchive, LegalArchive}
+use Rattle.versions.specs.Lawful.{InnerEntry, FrontEntry, LawfulArchive}
 use Rattle.versions.specs.SetLaws.{timesIn-write, canonical-write, ever-any}
 use Rattle.versions.specs.StampedLabels.{held-inner}
 use Rattle.versions.specs.BackLaws.{length-always, any-always}
@@ -87,10 +87,6 @@ module _ (n : ℕ) (m : n ≤ 999) where
         | false ↦ stamp (writeTimes (maskG n gs)) (elem (nameIn l) (holding gs (stamped n (maskG n gs) k)) end) (stamped n parent r)
       ])) (sameTimes parent (maskG n gs)) (λ _. (held, rest))
       (λ _. timed-stamp n (maskG n gs) (length-maskG contents n gs (w .0)) m (is-true (any (maskG n gs)) (w .1)) (elem (nameIn l) (holding gs (stamped n (maskG n gs) k)) end) (stamped n parent r) (held, tt) rest)
-
-pub timed-archive : (K : KeyList) (n : ℕ) (a : Archive) → LegalArchive K n a → 1 ≤ n → n ≤ 999 → AllTimed n (archiveForest n a)
-unfolding AllTimed archiveForest
-timed-archive K n a h l m = timed-stamp n (always n) (length-always n) m (any-always n l) (stamped n (always n) a) end (timed-stamped n m K [] (always n) a (h .formed) (h .lawful)) tt
 
 -- ---- a forest that is legal by what a program checks on it
 module _ (n : ℕ) where

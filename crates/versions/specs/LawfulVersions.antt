@@ -1,26 +1,25 @@
 -- The versions of a legal archive are legal, and so is the archive of its first versions.
 use Prim.Native.Nat.{ℕ, zero, suc, _<_, _≤_}
-use mathlib.Core.Path.{_≡_, refl, sym, _∙_, ap, subst}
+use mathlib.Core.Path.{_≡_, refl, sym, _∙_, ap}
 use mathlib.Core.Bool.{Bool, true, false}
 use mathlib.Core.Option.{Option, none, some}
 use mathlib.Core.List.{List, [], _∷_}
 use native.Mathlib.Omega.{arith}
-use lib.ListN.{length, take, getD, getD-replicate}
-use lib.Seq.{length-take-le}
+use lib.ListN.{getD, getD-replicate}
 use Rattle.xml.specs.Bytes.{Bytes}
 use Rattle.xml.specs.Forest.{end, text}
 use Rattle.model.specs.Masks.{clash}
-use Rattle.model.specs.Gather.{gather, All, all-snoc, all-take}
-use Rattle.model.specs.Keyed.{Tree, nil, node, isSome, grown, sift}
+use Rattle.model.specs.Gather.{All, all-snoc}
+use Rattle.model.specs.Keyed.{nil, node, isSome, grown, sift}
 use Rattle.model.specs.Orders.{labels}
 use Rattle.model.specs.Groups.{Groups, atG, WFG}
 use Rattle.model.specs.Ledger.{reads}
 use Rattle.model.specs.Rebuilt.{ascending-sift, WFBy-ascending}
 use Rattle.model.specs.Sifted.{look-sift, mask-at, all-at}
-use Rattle.model.specs.Stored.{mergeS, versionS, cutS, maskG}
-use Rattle.model.specs.Theorems.{versions, formed-archive, versions-ascend, length-versions, archive-cut}
-use Rattle.keys.specs.KeyList.{Path, KeyList, rulesKept, contextsInNotation, above, keyNamesAt}
-use Rattle.keys.specs.Version.{_▸_, Label, nameIn}
+use Rattle.model.specs.Stored.{versionS, maskG}
+use Rattle.model.specs.Theorems.{versions}
+use Rattle.keys.specs.KeyList.{Path, KeyList, above, keyNamesAt}
+use Rattle.keys.specs.Version.{_▸_, nameIn}
 use Rattle.keys.specs.Address.{valuesIn}
 use Rattle.keys.specs.Tree.{Content, front, contents}
 use Rattle.keys.specs.Legal.{Kind, KeyChildren, Lawful, InnerContent, FrontContent, KeyContent, LawfulVersion, Sole, LegalTree}
@@ -28,7 +27,6 @@ use Rattle.timestamp.specs.Times.{always}
 use Rattle.versions.specs.Archive.{Archive}
 use Rattle.versions.specs.Lawful.{InnerEntry, FrontEntry, KeyEntry, LawfulArchive, Rooted, LegalArchive}
 use Rattle.versions.specs.LawfulLaws.{children-one}
-use Rattle.versions.specs.LawfulMerge.{archive-legal-tree}
 
 module _ (n i : ℕ) where
   -- a key child stands where its element does
@@ -87,22 +85,3 @@ versions-legal-to K n (suc m) a x b = all-snoc (LegalTree K) (reads versionS m a
 
 pub versions-legal : (K : KeyList) (n : ℕ) (a : Archive) → LegalArchive K n a → All (LegalTree K) (versions labels contents n a)
 versions-legal K n a x = versions-legal-to K n n a x (omega arith)
-
-pub cut-legal : (K : KeyList) (n i : ℕ) (a : Archive) (kept : rulesKept K ≡ true) (notation : contextsInNotation K ≡ true)
-    → LegalArchive K n a → 1 ≤ i → i ≤ n → LegalArchive K i (cutS i a)
-cut-legal K n i a kept notation x b c =
-    subst (λ m. LegalArchive K m (cutS i a)) size
-    (subst (λ t. LegalArchive K (length (take i vs)) t) (sym cut-is)
-    (archive-legal-tree K (take i vs) kept notation (all-take (LegalTree K) i vs (versions-legal K n a x)) (omega (arith, size))))
-  where
-    vs : List (Tree Label Content)
-    vs = versions labels contents n a
-
-    long : i ≤ length vs
-    long = rw (length-versions labels contents n a) c
-
-    size : length (take i vs) ≡ i
-    size = length-take-le i vs long
-
-    cut-is : cutS i a ≡ gather (mergeS labels contents) 0 nil (take i vs)
-    cut-is = ap (cutS i) (sym (formed-archive labels contents n a (x .formed))) ∙ archive-cut labels contents vs (versions-ascend labels contents n a (x .formed)) i long
