@@ -17,7 +17,7 @@ ghost use lib.ListN.{length};
 ghost use Rattle.versions.specs.Calls.{found as foundOf, add as addOf, retrieve as retrieveOf, history as historyOf, stepBack as stepBackOf};
 ghost use Rattle.firmware.specs.Told.{Told};
 
-// Founds an archive from a version of at most 1,024 bytes.
+// Founds an archive from a version of at most 2,048 bytes.
 pub fn found_short(keys: &[u8], version: &[u8], out: &mut [u8]) -> Answer
     requires { ⌜ length (now version) ≤ 2048 ⌝ }
     ensures { λ r. ⌜ Told (foundOf (now (keys .entry)) (now (version .entry)) (length (now (out .entry))) 16384)
@@ -36,7 +36,7 @@ pub fn found_long(keys: &[u8], version: &[u8], out: &mut [u8]) -> Answer
     found(keys, version, out, &mut work)
 }
 
-// Adds a version to an archive, each of at most 1,024 bytes.
+// Adds a version to an archive, each of at most 2,048 bytes.
 pub fn add_short(keys: &[u8], archive: &[u8], version: &[u8], out: &mut [u8]) -> Answer
     requires { ⌜ (length (now archive) ≤ 2048) × (length (now version) ≤ 2048) ⌝ }
     ensures { λ r. ⌜ Told (addOf (now (keys .entry)) (now (version .entry)) (now (archive .entry)) (length (now (out .entry))) 16384)
@@ -55,7 +55,7 @@ pub fn add_long(keys: &[u8], archive: &[u8], version: &[u8], out: &mut [u8]) -> 
     add_version(keys, archive, version, out, &mut work)
 }
 
-// Retrieves version i of an archive of at most 1,024 bytes.
+// Retrieves version i of an archive of at most 2,048 bytes.
 pub fn retrieve_short(keys: &[u8], archive: &[u8], i: usize, out: &mut [u8]) -> Answer
     requires { ⌜ length (now archive) ≤ 2048 ⌝ }
     ensures { λ r. ⌜ Told (retrieveOf (now (keys .entry)) (now (archive .entry)) i (length (now (out .entry))) 16384)
@@ -74,7 +74,7 @@ pub fn retrieve_long(keys: &[u8], archive: &[u8], i: usize, out: &mut [u8]) -> A
     retrieve(keys, archive, i, out, &mut work)
 }
 
-// Gives the history of an address in an archive of at most 1,024 bytes.
+// Gives the history of an address in an archive of at most 2,048 bytes.
 pub fn history_short(keys: &[u8], archive: &[u8], address: &[u8], out: &mut [u8]) -> Answer
     requires { ⌜ length (now archive) ≤ 2048 ⌝ }
     ensures { λ r. ⌜ Told (historyOf (now (keys .entry)) (now (archive .entry)) (now (address .entry)) (length (now (out .entry))) 16384)
@@ -93,7 +93,7 @@ pub fn history_long(keys: &[u8], archive: &[u8], address: &[u8], out: &mut [u8])
     give_history(keys, archive, address, out, &mut work)
 }
 
-// Steps an archive of at most 1,024 bytes back to version i.
+// Steps an archive of at most 2,048 bytes back to version i.
 pub fn back_short(keys: &[u8], archive: &[u8], i: usize, out: &mut [u8]) -> Answer
     requires { ⌜ length (now archive) ≤ 2048 ⌝ }
     ensures { λ r. ⌜ Told (stepBackOf (now (keys .entry)) (now (archive .entry)) i (length (now (out .entry))) 16384)
