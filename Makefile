@@ -2,7 +2,7 @@
 # make station       proves and builds the command for the watchroom, which bin/station runs
 # make station-test  runs every order of the command on document 01's record, wrong words too
 # make edits         tries the wrong programs of tests/edits, besides those of the gate
-# make test          the gate: tests over the static library, everything proved from nothing, must-fail edits, programs
+# make test          the gate: everything proved from nothing, must-fail edits, programs; then the tests over the library and of the command
 .PHONY: demo station station-test edits test
 
 demo:

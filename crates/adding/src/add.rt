@@ -15,6 +15,7 @@ use walks::history::element_at;
 use walks::timed::put_newest;
 use walks::timed::put_times;
 use xml::tape::view_at;
+use xml::writer::least;
 use xml::writer::put_close;
 use xml::writer::put_open;
 use xml::writer::put_word;
@@ -33,7 +34,7 @@ ghost use Rattle.adding.specs.Growth.{Grew};
 ghost use Rattle.versions.specs.AddWalk.{Held, SomeHeld, Both, SomeBoth};
 ghost use Rattle.adding.specs.AddWhole.{Adding, SomeAdding};
 
-// The sibling p, whose element is at the place `own`, and which the version has as its element q.
+// The sibling p, whose element is at the place `own`, and which the version has as its element q, from the start of `out`.
 fn write_both(
     text: &[u8],
     table: &[u32],
@@ -48,20 +49,19 @@ fn write_both(
     n: usize,
     around: Part,
     out: &mut [u8],
-    at: usize,
 ) -> Added
     requires { ⌜ SomeBoth (now text) (now table) paths own (now src) (now tape) p (now vsrc) (now vtape) q n (around .start) (around .end) × (n ≤ 998)
-        × (nextAt (now tape) p ≤ 2 ^ 32) × (nextAt (now vtape) q ≤ 2 ^ 32) × (at + 262144 * (nextAt (now tape) p - p + (nextAt (now vtape) q - q)) < 2 ^ 58) ⌝ }
+        × (nextAt (now tape) p ≤ 2 ^ 32) × (nextAt (now vtape) q ≤ 2 ^ 32) × (262144 * (nextAt (now tape) p - p + (nextAt (now vtape) q - q)) < 2 ^ 58) ⌝ }
     ensures { λ r. ⌜ ((K : KeyList) (w : Path) (t : Times) (o : Option Bytes) (m : Bytes) (k g : Forest)
         → Both (now (text .entry)) (now (table .entry)) paths own (now (src .entry)) (now (tape .entry)) p (now (vsrc .entry)) (now (vtape .entry)) q n (around .start) (around .end) K w t o m k g
-        → Grew (now (out .entry)) at (bothPart n o m (inside K n (w ▸ m) (setIn n t o) k g)) (sibling o m k) (nextAt (now (vtape .entry)) q - q)
+        → Grew (now (out .entry)) 0 (bothPart n o m (inside K n (w ▸ m) (setIn n t o) k g)) (sibling o m k) (nextAt (now (vtape .entry)) q - q)
         (262144 * (nextAt (now (tape .entry)) p - p + (nextAt (now (vtape .entry)) q - q))) r (now (out .exit))) ⌝ }
 {
     let e = element_at(tape, p);
     let set = set_of(src, tape, p, around);
     let v = view_at(tape, e);
     let w = view_at(vtape, q);
-    let tag = open_set(src, tape, p, set, n, out, at);
+    let tag = open_set(src, tape, p, set, n, out, 0);
     let inside = put_open(true, src, v.start, v.end, out, tag);
     let x = write_added(
         text,
@@ -90,6 +90,7 @@ fn write_both(
 }
 
 // What an element at the place comes to hold: lo to hi is what it held in the versions `around`, vlo to vhi what it holds in version n + 1.
+// The writer of each sibling is lent the output's part from the current place.
 pub fn write_added(
     text: &[u8],
     table: &[u32],
@@ -124,13 +125,14 @@ pub fn write_added(
     while p < hi {
         let own = own_place(text, table, paths, place, src, tape, p);
         let order = order_of(text, table, paths, own, src, tape, p, vsrc, vtape, q, vhi);
+        let from = least(to, out.len());
         if order == 2 {
             let w = view_at(vtape, q);
-            to = put_newest(n, vsrc, vtape, q, w.next, out, to);
+            to += put_newest(n, vsrc, vtape, q, w.next, &mut out[from..], 0);
             fresh += w.next - q;
             q = w.next;
         } else if order == 0 {
-            to = write_old(src, tape, p, around, out, to);
+            to += write_old(src, tape, p, around, &mut out[from..]);
             let v = view_at(tape, p);
             p = v.next;
         } else {
@@ -147,12 +149,11 @@ pub fn write_added(
                 q,
                 n,
                 around,
-                out,
-                to,
+                &mut out[from..],
             );
             let v = view_at(tape, p);
             let w = view_at(vtape, q);
-            to = x.at;
+            to += x.at;
             fresh += x.fresh;
             p = v.next;
             q = w.next;

@@ -7,6 +7,7 @@ use keys::places::child;
 use walks::history::element_at;
 use walks::timed::put_newest;
 use xml::tape::view_at;
+use xml::writer::least;
 use xml::writer::put_word;
 use xml::writer::write_at;
 ghost use mathlib.Core.Path.{_≡_};
@@ -81,28 +82,21 @@ pub fn close_set(tape: &[u32], p: usize, out: &mut [u8], at: usize) -> usize
     at
 }
 
-// Writes it where the version lacks it: it is in a `T` now.
-pub fn write_old(
-    src: &[u8],
-    tape: &[u32],
-    p: usize,
-    around: Part,
-    out: &mut [u8],
-    at: usize,
-) -> usize
-    requires { ⌜ (p < nextAt (now tape) p) × Valid (now src) (now tape) p (nextAt (now tape) p) × (nextAt (now tape) p ≤ 2 ^ 32) × (around .start ≤ around .end) × (around .end ≤ length (now src)) × (around .end - around .start ≤ 3000) × (at < 2 ^ 59) ⌝ }
+// Writes it from the start of `out` where the version lacks it: it is in a `T` now.
+pub fn write_old(src: &[u8], tape: &[u32], p: usize, around: Part, out: &mut [u8]) -> usize
+    requires { ⌜ (p < nextAt (now tape) p) × Valid (now src) (now tape) p (nextAt (now tape) p) × (nextAt (now tape) p ≤ 2 ^ 32) × (around .start ≤ around .end) × (around .end ≤ length (now src)) × (around .end - around .start ≤ 3000) ⌝ }
     ensures { λ r. ⌜ ((n : ℕ) (t : Times) (o : Option Bytes) (m : Bytes) (k : Forest) → n ≤ 999 → At (now (src .entry)) (now (tape .entry)) p o m k
-        → Says n (now (src .entry)) (around .start) (around .end) t → Wrote (now (out .entry)) at (write (oldPart t o m k)) r (now (out .exit)))
-        × (r ≤ at + 3012 + 163840 * (nextAt (now (tape .entry)) p - p)) ⌝ }
+        → Says n (now (src .entry)) (around .start) (around .end) t → Wrote (now (out .entry)) 0 (write (oldPart t o m k)) r (now (out .exit)))
+        × (r ≤ 3012 + 163840 * (nextAt (now (tape .entry)) p - p)) ⌝ }
 {
     let v = view_at(tape, p);
     if v.kind == 2 {
-        return write_at(src, tape, p, v.next, out, at);
+        return write_at(src, tape, p, v.next, out, 0);
     }
-    put_within(src, around.start, around.end, tape, p, v.next, out, at)
+    put_within(src, around.start, around.end, tape, p, v.next, out, 0)
 }
 
-// Writes the elements vlo to vhi of the version as what version n + 1 alone has.
+// Writes the elements vlo to vhi of the version as what version n + 1 alone has, each into the output's part from the current place.
 pub fn write_new(
     vsrc: &[u8],
     vtape: &[u32],
@@ -120,7 +114,8 @@ pub fn write_new(
     let mut to = at;
     while q < vhi {
         let w = view_at(vtape, q);
-        to = put_newest(n, vsrc, vtape, q, w.next, out, to);
+        let from = least(to, out.len());
+        to += put_newest(n, vsrc, vtape, q, w.next, &mut out[from..], 0);
         q = w.next;
     }
     to

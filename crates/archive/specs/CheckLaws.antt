@@ -1,9 +1,8 @@
--- The call that checks a key list: a law for each answer; the loader's answers; and cells that are filled with zeros.
+-- The call that checks a key list: a law for each answer; and the loader's answers.
 use Prim.Native.Nat.{ℕ, _<_, _≤_}
-use mathlib.Core.Path.{_≡_, refl, sym, _∙_, subst}
-use mathlib.Core.List.{List, [], _∷_, _++_}
-use lib.ListN.{length, drop, replicate}
-use lib.Seq.{drop-length}
+use mathlib.Core.Path.{_≡_, refl, subst}
+use mathlib.Core.List.{List}
+use lib.ListN.{length, replicate}
 use borrow.Author.Tests.{lt-ltb, le-ltb}
 use Rattle.xml.specs.Bytes.{Bytes}
 use Rattle.keys.specs.Result.{numberOf, r3, r4, refused, ok}
@@ -13,16 +12,6 @@ use Rattle.keys.specs.Loading.{LoadRead}
 use Rattle.keys.specs.declared.load.Loaded.{Loaded}
 use Rattle.keys.specs.declared.load.Loaded.the-variants.{Table as Loads, Notation as NotNoted, Rules as NotKept}
 use Rattle.versions.specs.Calls.{answer, room, atMost, checkKeys, workAfter}
-
-pub append-none : (l : List ℕ) → l ++ [] ≡ l
-append-none [] = refl
-append-none (x ∷ l) = rw (append-none l)
-
--- a list that is filled up to its end
-pub all-filled : {w : List ℕ} (i : ℕ) (d : List ℕ) → w ≡ replicate i 0 ++ drop i d → i ≡ length d → w ≡ replicate (length d) 0
-all-filled {w} i d e h =
-    let f : w ≡ replicate (length d) 0 ++ drop (length d) d = subst (λ k. w ≡ replicate k 0 ++ drop k d) h e in
-    f ∙ subst (λ l. replicate (length d) 0 ++ l ≡ replicate (length d) 0) (sym (drop-length d)) (append-none (replicate (length d) 0))
 
 -- what a call that checks a key list answers and leaves
 abbrev pub Checks : Bytes → List ℕ → ℕ → ℕ → List ℕ → Type 0

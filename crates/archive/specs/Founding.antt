@@ -3,7 +3,7 @@ use Prim.Native.Nat.{_+_, _≤_}
 use native.Mathlib.Omega.{arith}
 use mathlib.Core.Path.{_≡_, refl, _∙_, ap, ap₂}
 use mathlib.Core.Bool.{_||_}
-use mathlib.Core.List.{[], _∷_, _++_}
+use mathlib.Core.List.{[], _∷_, _++_, append-nil}
 use lib.Dec.{ltb}
 use lib.ListN.{length, length-append}
 use borrow.Author.Tests.{le-ltb, ltb-false}
@@ -20,7 +20,6 @@ use Rattle.keys.specs.TreeParts.{forest-tree}
 use Rattle.timestamp.specs.Times.{always, onlyAfter, writeTimes, times-compute}
 use Rattle.versions.specs.Archive.{archive, archiveForest, archiveOf}
 use Rattle.versions.specs.AddWritten.{stamped-fresh}
-use Rattle.archive.specs.CheckLaws.{append-none}
 use Rattle.versions.specs.Calls.{storable}
 
 one-text : writeTimes (always 1) ≡ bytes "1"
@@ -42,7 +41,7 @@ module _ (K : KeyList) (s : Bytes) (v : Forest) (e : version K s ≡ ok v) where
 
   pub founded-text : write (archiveOf K (v ∷ [])) ≡ firstText (write v)
   unfolding write bytes
-  founded-text = ap write founded ∙ append-none (firstText (write v))
+  founded-text = ap write founded ∙ append-nil (firstText (write v))
 
   few : nodes v ≤ 512
   unfolding tooLarge

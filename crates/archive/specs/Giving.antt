@@ -100,12 +100,29 @@ module _ (s : Bytes) (out : List ℕ) {lacks : Bool} (h : lacks ≡ ltb (length 
       give-done s out (x .0) (omega (arith, x .0, ltb-false (length out) (length s) (sym h ∙ e))) (x .1)
 
 -- ---- the call
+-- number, length and output at an exit are those of the answer a: of a call, and of an entry of the firmware, whose work cells are its own
+pub record Told (a : Answer) (out : List ℕ) (number size : ℕ) (left : List ℕ) : Type 0 where
+  pub number-is : number ≡ a .number
+  pub size-is : size ≡ length (a .bytes)
+  pub out-is : left ≡ outAfter a out
+
+-- where 16,384 cells are lent, 1 does not hold, and the answer is what the later steps give
+pub gives-told : (x : Result Bytes) (a : Answer) (out : List ℕ) → a ≡ answer (room 16384 >> x) → {number size : ℕ} {left : List ℕ} → Gives x number size out left
+    → Told a out number size left
+unfolding room
+gives-told x a out z g =
+    let y : answer x ≡ a = sym z in
+    record { number-is = g .number-is ∙ ap (λ b. b .number) y; size-is = g .size-is ∙ ap (λ b. length (b .bytes)) y; out-is = g .out-is ∙ ap (λ b. outAfter b out) y }
+
 -- number, length, output and work cells at a call's exit are those of the answer a
 pub record Ends (a : Answer) (out work : List ℕ) (number size : ℕ) (left cells : List ℕ) : Type 0 where
   pub number-is : number ≡ a .number
   pub size-is : size ≡ length (a .bytes)
   pub out-is : left ≡ outAfter a out
   pub work-is : cells ≡ workAfter a work
+
+pub ends-told : {a : Answer} {out work : List ℕ} {number size : ℕ} {left cells : List ℕ} → Ends a out work number size left cells → Told a out number size left
+ends-told e = record { number-is = e .number-is; size-is = e .size-is; out-is = e .out-is }
 
 clear-after : (a : Answer) (work : List ℕ) → eqb (a .number) 1 ≡ false → workAfter a work ≡ replicate (length work) 0
 unfolding workAfter

@@ -2,13 +2,13 @@
 use crate::Answer;
 use crate::received::Received;
 use crate::received::receive;
-use crate::work::clear;
 use adding::add::add;
 use keys::load::Loaded;
 use keys::load::load;
 use legality::open::Opened;
 use legality::open::count_nodes;
 use legality::open::open;
+use xml::tape::clear;
 use xml::writer::put_part;
 ghost use mathlib.Core.Path.{_≡_};
 ghost use Prim.Native.Nat.{_≤_, min};

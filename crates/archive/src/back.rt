@@ -1,11 +1,11 @@
 // The call that steps back to a version.
 use crate::Answer;
-use crate::work::clear;
 use keys::load::Loaded;
 use keys::load::load;
 use legality::open::Opened;
 use legality::open::open;
 use walks::back::back;
+use xml::tape::clear;
 ghost use Prim.Native.Nat.{_≤_};
 ghost use mathlib.Core.Path.{_≡_};
 ghost use lib.Dec.{ltb};

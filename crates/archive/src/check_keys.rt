@@ -1,8 +1,8 @@
 // The first call: is a text a key list?
 use crate::Answer;
-use crate::work::clear;
 use keys::load::Loaded;
 use keys::load::load;
+use xml::tape::clear;
 ghost use mathlib.Core.Path.{_≡_};
 ghost use lib.ListN.{length};
 ghost use Rattle.versions.specs.Calls.{checkKeys, workAfter};

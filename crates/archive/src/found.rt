@@ -2,9 +2,9 @@
 use crate::Answer;
 use crate::received::Received;
 use crate::received::receive;
-use crate::work::clear;
 use keys::load::Loaded;
 use keys::load::load;
+use xml::tape::clear;
 use xml::writer::put_word;
 use xml::writer::write_at;
 ghost use Prim.Native.Nat.{_≤_};

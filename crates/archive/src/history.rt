@@ -1,6 +1,5 @@
 // The call that gives the history of an address.
 use crate::Answer;
-use crate::work::clear;
 use keys::address::Parsed;
 use keys::address::parse_address;
 use keys::load::Loaded;
@@ -8,6 +7,7 @@ use keys::load::load;
 use legality::open::Opened;
 use legality::open::open;
 use walks::history::history;
+use xml::tape::clear;
 ghost use Prim.Native.Nat.{_≤_};
 ghost use lib.ListN.{length};
 ghost use Rattle.xml.specs.Forest.{Forest};

@@ -4,9 +4,8 @@ pub mod back;
 pub mod check_keys;
 pub mod found;
 pub mod history;
-pub mod received;
+mod received;
 pub mod retrieve;
-pub mod work;
 
 // A call's answer: the number of a refusal or 0, and the length of the result.
 pub struct Answer {

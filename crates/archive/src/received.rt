@@ -13,7 +13,7 @@ ghost use Rattle.archive.specs.Reception.{OnTape, Receives};
 ghost use Rattle.keys.specs.Loading.{Tabled};
 
 // So many nodes in canonical order; or the number of the refusal.
-pub enum Received {
+pub(crate) enum Received {
     Done(usize),
     Back(u32),
 }
@@ -47,7 +47,7 @@ fn accept(
 }
 
 // Reads a version's text by way of the work cells, and puts it onto `canon` in canonical order.
-pub fn receive(
+pub(crate) fn receive(
     text: &[u8],
     table: &[u32],
     n: usize,

@@ -15,7 +15,7 @@ use archive::retrieve::retrieve_in;
 ghost use Prim.Native.Nat.{_≤_};
 ghost use lib.ListN.{length};
 ghost use Rattle.versions.specs.Calls.{found as foundOf, add as addOf, retrieve as retrieveOf, history as historyOf, stepBack as stepBackOf};
-ghost use Rattle.firmware.specs.Told.{Told};
+ghost use Rattle.archive.specs.Giving.{Told};
 
 // Founds an archive from a version of at most 2,048 bytes.
 pub fn found_short(keys: &[u8], version: &[u8], out: &mut [u8]) -> Answer

@@ -16,7 +16,7 @@ use cells::retrieve_short;
 ghost use mathlib.Core.Path.{_≡_};
 ghost use lib.ListN.{length as sizeOf};
 ghost use Rattle.versions.specs.Calls.{checkKeys, found as foundOf, add as addOf, retrieve as retrieveOf, history as historyOf, stepBack as stepBackOf};
-ghost use Rattle.firmware.specs.Told.{Told};
+ghost use Rattle.archive.specs.Giving.{Told};
 
 // The work cells of an entry.
 const CELLS: usize = 16384;

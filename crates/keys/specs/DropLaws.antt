@@ -12,6 +12,15 @@ use Rattle.keys.specs.Version.{_▸_, Label, dropWhite, called, isOneVal
 use Rattle.keys.specs.SortedKept.{find-elem}
 use Rattle.keys.specs.Labelled.{valuesOf, hasKeys}
 
+-- a run of text is dropped or kept
+pub drop-run : (K : KeyList) (p : Path) (b : Bytes) (r : Forest) → (above K p && all isWhite b) ≡ true → dropWhite K p (text b r) ≡ dropWhite K p r
+unfolding dropWhite
+drop-run K p b r e = rw (e, dropWhite)
+
+pub keep-run : (K : KeyList) (p : Path) (b : Bytes) (r : Forest) → (above K p && all isWhite b) ≡ false → dropWhite K p (text b r) ≡ text b (dropWhite K p r)
+unfolding dropWhite
+keep-run K p b r e = rw (e, dropWhite)
+
 -- beneath a frontier nothing is dropped
 pub front-drop : (K : KeyList) (q : Path) (f : Forest) → above K q ≡ false → dropWhite K q f ≡ f
 unfolding dropWhite
@@ -27,6 +36,10 @@ over-text μ true b r e = refl
 over-text μ false b r e = e
 
 module _ (K : KeyList) (rules : rulesKept K ≡ true) where
+  -- a key child stands at a frontier
+  pub key-front : (p : Path) (key n : Bytes) → any (same key) (keyNamesAt K p) ≡ true → same key n ≡ true → above K (p ▸ n) ≡ false
+  key-front p key n m e = ap (λ (z : Bytes). above K (p ▸ z)) (sym (same-is key n e)) ∙ key-frontier K p key rules m
+
   pub called-drop : (p : Path) (key : Bytes) (f : Forest) → any (same key) (keyNamesAt K p) ≡ true → called key (dropWhite K p f) ≡ called key f
   unfolding called dropWhite
   called-drop p key end m = refl
@@ -35,7 +48,7 @@ module _ (K : KeyList) (rules : rulesKept K ≡ true) where
   called-drop p key (elem n k r) m =
       let i = called-drop p key r m in
       by-test (same key n)
-      (λ e. rw (e, called) (ap₂ _∷_ (front-drop K (p ▸ n) k (ap (λ (z : Bytes). above K (p ▸ z)) (sym (same-is key n e)) ∙ key-frontier K p key rules m)) i))
+      (λ e. rw (e, called) (ap₂ _∷_ (front-drop K (p ▸ n) k (key-front p key n m e)) i))
       (λ e. rw (e, called) i)
 
   -- of all key names

@@ -73,3 +73,8 @@ pub mod AddressTurns
 pub mod AddressStep
 pub mod AddressLoop
 pub mod SameStep
+pub mod Alike
+pub mod KeyTallies
+pub mod AlikeLaws
+pub mod AlikeKept
+pub mod AlikeSamples

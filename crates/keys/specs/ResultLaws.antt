@@ -1,7 +1,7 @@
 -- What a result of a `do` block says of its steps.
 use Prim.Native.Nat.{ℕ}
 use native.Mathlib.Omega.{arith}
-use mathlib.Core.Path.{_≡_, refl}
+use mathlib.Core.Path.{_≡_, refl, sym}
 use mathlib.Core.Bool.{Bool, true, false}
 use Rattle.keys.specs.Result.{Refusal, Result, refused, ok, _>>=_, _>>_, refuse, refusedAs}
 
@@ -23,6 +23,11 @@ passed n true s b e = refused-ok e
 -- and back
 pub pass : {B : Type 0} (n : Refusal) {x : Bool} (s : Result B) → x ≡ false → (refuse n x >> s) ≡ s
 pass n s e = rw e
+
+-- two blocks that begin with one test and, where it fails, go on alike
+pub refuse-both : {B : Type 0} (n : Refusal) (x : Bool) {y : Bool} {s t : Result B} → x ≡ y → (x ≡ false → s ≡ t) → (refuse n x >> s) ≡ (refuse n y >> t)
+refuse-both n true e h = rw (sym e)
+refuse-both n false e h = rw (sym e) (h refl)
 
 pub refusedAs-inv : {A : Type 0} (n : Refusal) (r : Result A) (a : A) → refusedAs n r ≡ ok a → r ≡ ok a
 refusedAs-inv n (refused m) a e = refused-ok e

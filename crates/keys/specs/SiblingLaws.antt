@@ -94,7 +94,7 @@ module _ (K : KeyList) (p : Path) where
       (λ y. insert-later n k c i (insertBy K p m j r) y ∙ ap (elem c i) (insert-less n k m j r e) ∙ sym (insert-later m j c i (insertBy K p n k r) x)
       ∙ ap (insertBy K p m j) (sym (insert-later n k c i r y))))
 
-  insert-swap : (n : Bytes) (k : Forest) (m : Bytes) (j s : Forest) → sameLabel (label K p n k) (label K p m j) ≡ false
+  pub insert-swap : (n : Bytes) (k : Forest) (m : Bytes) (j s : Forest) → sameLabel (label K p n k) (label K p m j) ≡ false
       → insertBy K p n k (insertBy K p m j s) ≡ insertBy K p m j (insertBy K p n k s)
   unfolding sameLabel before
   insert-swap n k m j s e = go (labels .cmp (label K p n k) (label K p m j)) refl e

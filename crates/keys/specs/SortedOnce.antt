@@ -33,15 +33,15 @@ abbrev doubledIn : KeyList → Path → Bytes → Forest → Forest → Bool
 doubledIn K p n k r = above K p && isSome (find K p (label K p n k) r)
 
 module _ (K : KeyList) (p : Path) (n : Bytes) (k r : Forest) (e : doubled K p (elem n k r) ≡ false) where
-  single-here : doubledIn K p n k r ≡ false
+  pub single-here : doubledIn K p n k r ≡ false
   unfolding doubled
   single-here = or-left (doubledIn K p n k r) (doubled K (p ▸ n) k) (or-left (doubledIn K p n k r || doubled K (p ▸ n) k) (doubled K p r) e)
 
-  single-kids : doubled K (p ▸ n) k ≡ false
+  pub single-kids : doubled K (p ▸ n) k ≡ false
   unfolding doubled
   single-kids = or-right (doubledIn K p n k r) (doubled K (p ▸ n) k) (or-left (doubledIn K p n k r || doubled K (p ▸ n) k) (doubled K p r) e)
 
-  single-rest : doubled K p r ≡ false
+  pub single-rest : doubled K p r ≡ false
   unfolding doubled
   single-rest = or-right (doubledIn K p n k r || doubled K (p ▸ n) k) (doubled K p r) e
 

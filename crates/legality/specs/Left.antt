@@ -10,7 +10,7 @@ use Rattle.xml.specs.Bytes.{Bytes}
 use Rattle.xml.specs.Tape.{headAt}
 use Rattle.xml.specs.TapeLaws.{bytesAt}
 use Rattle.xml.specs.Truth.{by-test, clash, not-so, and-left, and-right, and-both}
-use Rattle.timestamp.specs.Set.{none, upTo, joined, without, every, sameSet, isNone, subset, firstIn}
+use Rattle.timestamp.specs.Set.{emptySet, upTo, joined, without, every, sameSet, isNone, subset, firstIn}
 use Rattle.timestamp.specs.Tests.{subset-tells, subset-told, apart-told}
 use Rattle.timestamp.specs.TakenText.{firstTaken}
 use Rattle.timestamp.specs.Listed.{Only}
@@ -31,7 +31,7 @@ pub within-less : (s l t g : ℕ → Bool) → g ≡ without l s → Within l t 
 within-less s l t g e w v q = w v (and-left (l v) (not (s v)) (sym (ap (λ (f : ℕ → Bool). f v) e) ∙ q))
 
 -- at first nothing is taken
-pub none-taken : (t : ℕ → Bool) → without t t ≡ none
+pub none-taken : (t : ℕ → Bool) → without t t ≡ emptySet
 none-taken t = fun-ext (λ v. go (t v))
   where
     go : (a : Bool) → (a && not a) ≡ false

@@ -12,7 +12,7 @@ use lib.Seq.{slice, slice-cons}
 use Rattle.xml.specs.Bytes.{Bytes, isDigit}
 use Rattle.xml.specs.Truth.{by-test, not-so, clash, and-right}
 use Rattle.timestamp.specs.TimesLaws.{digit-low, digit-high}
-use Rattle.timestamp.specs.Set.{none, joined, between}
+use Rattle.timestamp.specs.Set.{emptySet, joined, between}
 use Rattle.timestamp.specs.Parse.{refused, accepted, parsed, numbersIn}
 use Rattle.timestamp.specs.Parses.{read-parsed}
 use Rattle.timestamp.specs.Reading.{St, bad, st, pickN, pickS, more, opens, closes, startAt, digitIn, dashIn, closeIn, stepIn, steps, setIn, readIn, start-le, more-low, step-digit, step-dash, step-comma, step-other}
@@ -57,7 +57,7 @@ module _ {l : Bytes} {x y : ℕ} {nodes bytes : List ℕ} where
   unfolding readIn
   raising-start e =
       record {
-        set = none;
+        set = emptySet;
         p = 0;
         ends = read-parsed l ∙ e;
         below = λ v h. refl;

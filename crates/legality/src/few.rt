@@ -2,7 +2,6 @@
 use crate::front::is_untimed;
 use crate::times::take_at;
 use timestamp::Timestamp;
-use timestamp::is_none;
 use xml::compare::same_nodes;
 use xml::tape::view_at;
 ghost use mathlib.Core.Path.{_≡_};
@@ -11,7 +10,7 @@ ghost use lib.Dec.{leb};
 ghost use Rattle.xml.specs.Forest.{Forest, end};
 ghost use Rattle.xml.specs.Tape.{Tape, Valid};
 ghost use Rattle.keys.specs.Legal.{untimed};
-ghost use Rattle.timestamp.specs.Set.{setOf, none};
+ghost use Rattle.timestamp.specs.Set.{setOf, emptySet};
 ghost use Rattle.timestamp.specs.Listed.{Only};
 ghost use Rattle.versions.specs.Branches.{repeats, judged};
 ghost use Rattle.legality.specs.Few.{siblings};
@@ -64,7 +63,7 @@ pub(crate) fn few_legal(
 ) -> bool
     requires { ⌜ Valid (now src) (now tape) lo hi ⌝ }
     ensures { λ r. ⌜ ((f : Forest) → Tape (now (src .entry)) (now (tape .entry)) lo hi f → Only n (setOf (times .words))
-        → r ≡ judged n (setOf (times .words)) none 0 0 end f) ⌝ }
+        → r ≡ judged n (setOf (times .words)) emptySet 0 0 end f) ⌝ }
 {
     let mut left = times.words;
     let mut p = lo;
@@ -89,5 +88,5 @@ pub(crate) fn few_legal(
     if count < 2 {
         return false;
     }
-    is_none(&left)
+    Timestamp { words: left }.is_empty()
 }

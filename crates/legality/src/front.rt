@@ -4,7 +4,6 @@ use crate::few::few_legal;
 use crate::mark::mark;
 use crate::times::take_at;
 use timestamp::Timestamp;
-use timestamp::is_none;
 use xml::compare::same_bytes;
 use xml::compare::same_nodes;
 use xml::tape::view_at;
@@ -17,7 +16,7 @@ ghost use Rattle.xml.specs.Forest.{Forest, end, sameForest};
 ghost use Rattle.xml.specs.Tape.{Tape, Valid};
 ghost use Rattle.keys.specs.Legal.{untimed};
 ghost use Rattle.timestamp.specs.Times.{Times};
-ghost use Rattle.timestamp.specs.Set.{setOf, none, adding};
+ghost use Rattle.timestamp.specs.Set.{setOf, emptySet, adding};
 ghost use Rattle.timestamp.specs.Listed.{listed, Only};
 ghost use Rattle.versions.specs.Walk.{frontLegal};
 ghost use Rattle.versions.specs.Untimed.{timedNode};
@@ -161,7 +160,7 @@ fn branches_legal(
 ) -> bool
     requires { ⌜ Valid (now src) (now tape) lo hi ⌝ }
     ensures { λ r. ⌜ ((f : Forest) → Tape (now (src .entry)) (now (tape .entry)) lo hi f → Only n (setOf (times .words))
-        → r ≡ judged n (setOf (times .words)) none 0 0 end f) ⌝ }
+        → r ≡ judged n (setOf (times .words)) emptySet 0 0 end f) ⌝ }
 {
     let mut left = times.words;
     let mut p = lo;
@@ -191,7 +190,7 @@ fn branches_legal(
     if count < 2 {
         return false;
     }
-    is_none(&left)
+    Timestamp { words: left }.is_empty()
 }
 
 // What a frontier that stands in the versions `times` holds.

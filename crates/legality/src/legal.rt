@@ -8,7 +8,6 @@ use keys::places::is_above;
 use keys::places::key_count;
 use keys::places::key_name;
 use timestamp::Timestamp;
-use timestamp::is_part;
 use walks::history::element_at;
 use xml::compare::same_bytes;
 use xml::tape::view_at;
@@ -20,10 +19,9 @@ ghost use Rattle.xml.specs.Forest.{Forest};
 ghost use Rattle.xml.specs.Bytes.{Bytes};
 ghost use Rattle.xml.specs.Tape.{nextAt, Tape, Valid};
 ghost use Rattle.keys.specs.KeyList.{keyNamesAt};
-ghost use Rattle.keys.specs.Version.{called, isOneValue};
 ghost use Rattle.keys.specs.Labelled.{hasKeys, Labelled};
 ghost use Rattle.keys.specs.Walks.{Walk, OfNodes};
-ghost use Rattle.timestamp.specs.Set.{setOf, none};
+ghost use Rattle.timestamp.specs.Set.{setOf, emptySet};
 ghost use Rattle.timestamp.specs.Parse.{readAs};
 ghost use Rattle.timestamp.specs.Listed.{Only, listed};
 ghost use Rattle.versions.specs.Walk.{isSole, siblingsLegal};
@@ -74,19 +72,20 @@ pub fn is_sole(tape: &[u32], lo: usize, hi: usize) -> bool
 
 // Reads the set with the text src[a..e] into `own`, which holds none; whether it may be that of a `T` in an element of the versions `times`.
 fn times_fit(src: &[u8], a: usize, e: usize, times: Timestamp, own: &mut [u64; 16]) -> bool
-    requires { ⌜ (a ≤ e) × (e ≤ length (now src)) × (length (now own) ≡ 16) × (setOf (now own) ≡ none) ⌝ }
+    requires { ⌜ (a ≤ e) × (e ≤ length (now src)) × (length (now own) ≡ 16) × (setOf (now own) ≡ emptySet) ⌝ }
     ensures { λ r. ⌜ ((n : ℕ) → n ≤ 999 → Only n (setOf (times .words))
         → TimesRead n (setOf (times .words)) (slice a e (now (src .entry))) (readAs r (now (own .exit)))) × (length (now (own .exit)) ≡ 16) ⌝ }
 {
     if !parse_at(own, src, a, e) {
         return false;
     }
-    is_part(own, &times.words)
+    let words = *own;
+    Timestamp { words }.is_part(times)
 }
 
 // Puts the set of the sibling p, in an element of the versions `times`, into `own`: these if it is bare, or that of the `T`; whether there is one.
 fn own_times(src: &[u8], tape: &[u32], p: usize, times: Timestamp, own: &mut [u64; 16]) -> bool
-    requires { ⌜ (p < nextAt (now tape) p) × Valid (now src) (now tape) p (nextAt (now tape) p) × (length (now own) ≡ 16) × (setOf (now own) ≡ none) ⌝ }
+    requires { ⌜ (p < nextAt (now tape) p) × Valid (now src) (now tape) p (nextAt (now tape) p) × (length (now own) ≡ 16) × (setOf (now own) ≡ emptySet) ⌝ }
     ensures { λ r. ⌜ ((n hi : ℕ) (f : Forest) → n ≤ 999 → Only n (setOf (times .words)) → p < hi → Tape (now (src .entry)) (now (tape .entry)) p hi f
         → OwnRead n (setOf (times .words)) f (readAs r (now (own .exit)))) × (length (now (own .exit)) ≡ 16) ⌝ }
 {

@@ -7,7 +7,7 @@ ghost use mathlib.Core.Path.{_≡_};
 ghost use Prim.Native.Nat.{_≤_};
 ghost use lib.ListN.{length};
 ghost use lib.Seq.{slice};
-ghost use Rattle.timestamp.specs.Set.{setOf, none};
+ghost use Rattle.timestamp.specs.Set.{setOf, emptySet};
 ghost use Rattle.timestamp.specs.Parse.{parsed, outcome, readAs};
 ghost use Rattle.timestamp.specs.TakenText.{TakesText};
 
@@ -21,7 +21,7 @@ pub fn times_at(src: &[u8], a: usize, e: usize) -> Parsed
 
 // Reads the set with the text src[a..e] into words that hold none.
 pub fn parse_at(words: &mut [u64; 16], src: &[u8], a: usize, e: usize) -> bool
-    requires { ⌜ (a ≤ e) × (e ≤ length (now src)) × (length (now words) ≡ 16) × (setOf (now words) ≡ none) ⌝ }
+    requires { ⌜ (a ≤ e) × (e ≤ length (now src)) × (length (now words) ≡ 16) × (setOf (now words) ≡ emptySet) ⌝ }
     ensures { λ r. ⌜ (outcome (readAs r (now (words .exit))) ≡ parsed (slice a e (now (src .entry)))) × (length (now (words .exit)) ≡ 16) ⌝ }
 {
     parse_into(words, &src[a..e])

@@ -9,7 +9,7 @@ use lib.Dec.{ltb}
 use borrow.Author.Tests.{lt-ltb, le-ltb, le-leb, ne-eqb}
 use Rattle.xml.specs.Bytes.{isDigit, within, any}
 use Rattle.timestamp.specs.TimesLaws.{inRun}
-use Rattle.timestamp.specs.Set.{none, joined, between}
+use Rattle.timestamp.specs.Set.{emptySet, joined, between}
 use Rattle.timestamp.specs.Runs.{Asc, inRuns}
 use Rattle.timestamp.specs.Digits.{digit, digits, by-digits, runText, tailText, text}
 use Rattle.timestamp.specs.Parse.{accepted}
@@ -86,4 +86,4 @@ accepts (q ∷ rs) s p lo hi a =
 
 pub runs-accepted : (r : ℕ × ℕ) (rs : List (ℕ × ℕ)) → Asc 0 (r ∷ rs) → readIn (text (r ∷ rs)) ≡ accepted (inRuns (r ∷ rs))
 unfolding readIn
-runs-accepted r rs a = accepts rs none 0 (r .0) (r .1) a
+runs-accepted r rs a = accepts rs emptySet 0 (r .0) (r .1) a

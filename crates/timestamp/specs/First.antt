@@ -14,7 +14,7 @@ use borrow.Author.Tests.{eqb-true, eq-eqb}
 use Rattle.xml.specs.Truth.{bool-by}
 use Rattle.timestamp.specs.Bits.{bit, bit-zero, bit-suc, bit-none}
 use Rattle.timestamp.specs.TimesLaws.{bool-eq}
-use Rattle.timestamp.specs.Set.{setOf, none, isNone, outside, firstIn}
+use Rattle.timestamp.specs.Set.{setOf, emptySet, isNone, outside, firstIn}
 use Rattle.timestamp.specs.Words.{notAt, not-bit}
 use Rattle.timestamp.specs.Tests.{same-tells, same-told}
 
@@ -72,8 +72,8 @@ module _ (s : ℕ → Bool) where
 pub none-first : (s : ℕ → Bool) → eqb (firstIn 1024 s 0) 1024 ≡ isNone s
 none-first s =
     bool-eq (eqb (firstIn 1024 s 0) 1024) (isNone s)
-    (λ e. same-told s none (λ v l. first-before s 1024 0 v (omega arith) (omega (arith, eqb-true (firstIn 1024 s 0) 1024 e))))
-    (λ e. eq-eqb (firstIn 1024 s 0) 1024 (first-is s 1024 0 1024 (omega arith) (omega arith) (λ u a b. same-tells s none e u b) (λ b. absurd (omega arith))))
+    (λ e. same-told s emptySet (λ v l. first-before s 1024 0 v (omega arith) (omega (arith, eqb-true (firstIn 1024 s 0) 1024 e))))
+    (λ e. eq-eqb (firstIn 1024 s 0) 1024 (first-is s 1024 0 1024 (omega arith) (omega arith) (λ u a b. same-tells s emptySet e u b) (λ b. absurd (omega arith))))
 
 -- ---- the lowest bit of a word
 lowest-out : (k n j : ℕ) → j < trailingZeros k n → bit n j ≡ false

@@ -12,7 +12,7 @@ use Rattle.xml.specs.Bytes.{Bytes}
 use Rattle.xml.specs.Truth.{clash, not-so, and-left, and-right, and-both}
 use Rattle.timestamp.specs.Times.{Times, sameTimes, onlyAfter, always, upFrom, writeTimes, belongs}
 use Rattle.timestamp.specs.TimesLaws.{times-is, times-self, bool-eq, or-by, same-or, belongs-times, write-lacks, write-none}
-use Rattle.timestamp.specs.Set.{none, upTo, adding, cutAt, joined, sameSet}
+use Rattle.timestamp.specs.Set.{emptySet, upTo, adding, cutAt, joined, sameSet}
 use Rattle.timestamp.specs.Tests.{same-tells, same-told}
 use Rattle.timestamp.specs.Runs.{length-from, getD-from, from-cong, from-snoc, from-always}
 
@@ -64,7 +64,7 @@ pub listed-cong : (n : ℕ) (s t : ℕ → Bool) → ((v : ℕ) → 1 ≤ v → 
 unfolding listed
 listed-cong n s t h = from-cong s t 1 n (λ u a b. h u a (omega arith))
 
-pub listed-none : (n : ℕ) → listed n none ≡ replicate n false
+pub listed-none : (n : ℕ) → listed n emptySet ≡ replicate n false
 unfolding listed
 listed-none n = from-always false 1 n
 
@@ -84,9 +84,9 @@ pub listed-lacking : (n : ℕ) (s : ℕ → Bool) → Only n s → listed (suc n
 listed-lacking n s o = listed-snoc n s ∙ ap (λ (b : Bool). listed n s ++ b ∷ []) (only-past n s o (suc n) (omega arith))
 
 -- the set of version n + 1 alone
-pub listed-newest : (n : ℕ) → listed (suc n) (adding (suc n) none) ≡ onlyAfter n
+pub listed-newest : (n : ℕ) → listed (suc n) (adding (suc n) emptySet) ≡ onlyAfter n
 unfolding onlyAfter
-listed-newest n = listed-adding n none ∙ ap (λ (l : Times). l ++ true ∷ []) (listed-none n)
+listed-newest n = listed-adding n emptySet ∙ ap (λ (l : Times). l ++ true ∷ []) (listed-none n)
 
 -- all of the versions 1 to n
 pub listed-up-to : (n : ℕ) → listed n (upTo n) ≡ always n
@@ -102,7 +102,7 @@ only-cut n i s o v e = (o v (and-left (s v) (leb v i) e) .0, leb-true v i (and-r
 pub only-joined : (n : ℕ) (s t : ℕ → Bool) → Only n s → Only n t → Only n (joined s t)
 only-joined n s t o o′ v e = or-by (s v) (t v) e (λ x. o v x) (λ x. o′ v x)
 
-pub only-none : (n : ℕ) → Only n none
+pub only-none : (n : ℕ) → Only n emptySet
 only-none n v e = clash (sym e)
 
 -- the same set, the same presence list
@@ -136,6 +136,6 @@ text-inj s t o o′ e =
 pub text-up-to : (n : ℕ) → n ≤ 999 → textOf (upTo n) ≡ writeTimes (always n)
 text-up-to n h = text-listed n (upTo n) h (only-up-to n) ∙ ap writeTimes (listed-up-to n)
 
-pub text-none : textOf none ≡ []
+pub text-none : textOf emptySet ≡ []
 unfolding textOf
 text-none = ap writeTimes (listed-none 999) ∙ write-none 999

@@ -1,23 +1,21 @@
--- The last run of a set's text that begins at a number or below it, found by halving: it alone tells whether the number is in the set.
+-- The last run of a set's text that begins at a number or below it, found by halving: it is where the set is cut at that number.
 use Prim.Native.Nat.{ℕ, suc, _+_, _-_, _≤_, _<_}
 use mathlib.Core.Path.{_≡_, refl, sym, ap, _∙_}
 use mathlib.Core.List.{List, [], _∷_, _++_, append-assoc}
-use mathlib.Core.Bool.{Bool, true, false, _||_, or-false}
+use mathlib.Core.Bool.{Bool, true, false}
 use native.Mathlib.Omega.{arith}
 use native.Mathlib.Decide.{decLt}
-use lib.Dec.{leb}
 use lib.ListN.{length, getD, drop, length-append}
 use lib.Seq.{getD-append-seam, getD-append-add, getD-drop}
-use borrow.Author.Tests.{le-leb, lt-leb}
 use Rattle.xml.specs.Bytes.{Bytes, any}
-use Rattle.xml.specs.Truth.{clash, not-so}
-use Rattle.timestamp.specs.Times.{writeRun, belongs}
-use Rattle.timestamp.specs.TimesLaws.{inRun, run-in, or-by, Within, belongs-runs}
+use Rattle.xml.specs.Truth.{clash}
+use Rattle.timestamp.specs.Times.{writeRun}
+use Rattle.timestamp.specs.TimesLaws.{inRun, run-in, or-by}
 use Rattle.timestamp.specs.Runs.{Asc, inRuns, rest, below-runs, runs-back}
-use Rattle.timestamp.specs.Digits.{text, text-joined, tailText}
-use Rattle.timestamp.specs.Numbers.{Onward, stays, reads, Ended}
+use Rattle.timestamp.specs.Digits.{text, tailText}
+use Rattle.timestamp.specs.Numbers.{NumberAt, stays, reads, Ended}
 use Rattle.timestamp.specs.Write.{run-short}
-use Rattle.timestamp.specs.Place.{IsSet, lead, Place, Reads, Clear, text-cons, asc-from, from-place, split-place, drop-place, numberOn, Stop, number-stop, number-back, first-back, run-whole, place-zero, place-comma, place-set, runs-append}
+use Rattle.timestamp.specs.Place.{IsSet, lead, Place, Clear, text-cons, asc-from, from-place, split-place, drop-place, numberOn, Stop, number-stop, number-back, first-back, run-whole, place-zero, place-comma, place-set}
 
 -- ---- places in the text
 -- a place where a run begins is inside
@@ -94,16 +92,16 @@ place-later : {l : Bytes} {at k : ℕ} → IsSet l → (c : Place l at) (d : Pla
 place-later w c d h = later 0 (c .before) (d .before) (c .q) (d .q) (c .after) (d .after) (place-same w c d) (c .asc) (omega (arith, c .place, d .place))
 
 -- the number that is read at a place is the first of its run
-pub first-place : {l : Bytes} {at n to : ℕ} (c : Place l at) → Onward l at 0 n to → Ended l n to → n ≡ c .q .0
+pub first-place : {l : Bytes} {at n to : ℕ} (c : Place l at) → NumberAt l at n to → Ended l n to → n ≡ c .q .0
 unfolding text
 first-place {l} {at} {n} {to} c o x = ap (λ (y : ℕ × Bytes). y .0) (sym (go o) ∙ ap (numberOn 0) (drop-place c) ∙ first-back (run-whole 0 (c .q) (c .after) (from-place c)))
   where
     stop : Stop n (drop to l)
     stop = let z : to + 0 ≡ to = omega arith in rw (getD-drop to l 0 0, z) x
 
-    go : Onward l at 0 n to → numberOn 0 (drop at l) ≡ (n, drop to l)
+    go : NumberAt l at n to → numberOn 0 (drop at l) ≡ (n, drop to l)
     go (stays e f) = ap (λ (m : ℕ). numberOn m (drop at l)) (sym e) ∙ ap (λ (m : ℕ). numberOn n (drop m l)) (sym f) ∙ number-stop n (drop to l) stop
-    go (reads z i j e f g) = ap (numberOn 0) e ∙ number-back n (drop to l) i j stop
+    go (reads i j e f g) = ap (numberOn 0) e ∙ number-back n (drop to l) i j stop
 
 -- ---- halving
 -- the place after the next comma from the place `at` on; the text's end where there is none
@@ -174,7 +172,7 @@ module _ {l : Bytes} {v lo hi : ℕ} (b : Bracket l v lo hi) where
           let z : next - 1 + 1 ≡ next = omega (arith, x .0) in
           rw z at (place-comma l (b .set .s) (b .set .is) (next - 1) (x .1))
 
-      module _ {m to : ℕ} (o : Onward l next 0 m to) (x : Ended l m to) where
+      module _ {m to : ℕ} (o : NumberAt l next m to) (x : Ended l m to) where
         pub bracket-low : m ≤ v → Bracket l v next hi
         bracket-low j =
             record { set = b .set; here = starts; low = λ _. omega (arith, first-place starts o x); high = b .high; inside = b .inside }
@@ -183,10 +181,6 @@ module _ {l : Bytes} {v lo hi : ℕ} (b : Bracket l v lo hi) where
         bracket-high j = upper (λ k c q. omega (arith, first-place starts o x, place-later (b .set) starts c q))
 
 -- ---- what the run found tells
-asc-within : (p : ℕ) (rs : List (ℕ × ℕ)) → Asc p rs → Within 1 rs
-asc-within p [] a = tt
-asc-within p (r ∷ rs) a = (omega (arith, a .0), a .1, omega (arith, a .2), asc-within (r .1 + 1) rs (a .3))
-
 -- the runs before a place have lower numbers
 before-low : (p : ℕ) (xs : List (ℕ × ℕ)) (q : ℕ × ℕ) (qs : List (ℕ × ℕ)) (u : ℕ) → Asc p (xs ++ q ∷ qs) → inRuns xs u ≡ true → u < q .0
 unfolding any
@@ -206,9 +200,6 @@ module _ {l : Bytes} {v at : ℕ} (n : Narrowed l v at) where
       go [] a z e = clash (sym e)
       go (x ∷ xs) a z e = (before-low 0 (x ∷ xs) (n .here .q) (n .here .after) u a e, n .low (omega (arith, z, lead-long x xs)))
 
-  none-before : inRuns (n .here .before) v ≡ false
-  none-before = not-so (inRuns (n .here .before) v) (λ e. let x = before-out v e in omega arith)
-
   -- the runs after it have greater numbers
   pub none-after : (u : ℕ) → u ≤ v → inRuns (n .here .after) u ≡ false
   unfolding any
@@ -217,26 +208,3 @@ module _ {l : Bytes} {v at : ℕ} (n : Narrowed l v at) where
       go : (rs : List (ℕ × ℕ)) → Asc (n .here .q .1 + 1) rs → ((r : ℕ × ℕ) (qs : List (ℕ × ℕ)) → rs ≡ r ∷ qs → v < r .0) → inRuns rs u ≡ false
       go [] a f = refl
       go (r ∷ rs) a f = below-runs (r .0 - 1) u (r ∷ rs) (omega (arith, a .0), a .1, a .2, a .3) (omega (arith, f r rs refl))
-
-  pub narrowed-holds : belongs v l ≡ inRun v (n .here .q)
-  unfolding any
-  narrowed-holds =
-      ap (belongs v) (n .here .is) ∙ go (n .here .before) (n .here .asc) ∙ runs-append (n .here .before) (n .here .q ∷ n .here .after) v
-      ∙ ap (λ (y : Bool). y || (inRun v (n .here .q) || inRuns (n .here .after) v)) none-before
-      ∙ ap (λ (y : Bool). inRun v (n .here .q) || y) (none-after v (omega arith)) ∙ or-false (inRun v (n .here .q))
-    where
-      some : (r : ℕ × ℕ) (rs : List (ℕ × ℕ)) → Asc 0 (r ∷ rs) → belongs v (text (r ∷ rs)) ≡ inRuns (r ∷ rs) v
-      some r rs a = ap (belongs v) (sym (text-joined (r ∷ rs) a)) ∙ belongs-runs v r rs (asc-within 0 (r ∷ rs) a)
-
-      go : (xs : List (ℕ × ℕ)) → Asc 0 (xs ++ n .here .q ∷ n .here .after) → belongs v (text (xs ++ n .here .q ∷ n .here .after)) ≡ inRuns (xs ++ n .here .q ∷ n .here .after) v
-      go [] a = some (n .here .q) (n .here .after) a
-      go (x ∷ xs) a = some x (xs ++ n .here .q ∷ n .here .after) a
-
-  module _ {lo hi to : ℕ} (r : Reads (n .here .q) (n .here .after) l lo hi to) where
-    pub holds-not : v < lo → false ≡ belongs v l
-    unfolding inRun
-    holds-not h = sym (narrowed-holds ∙ rw (lt-leb (n .here .q .0) v (omega (arith, r .first))))
-
-    pub holds-by : lo ≤ v → leb v hi ≡ belongs v l
-    unfolding inRun
-    holds-by h = ap (leb v) (r .last) ∙ sym (narrowed-holds ∙ rw (le-leb (n .here .q .0) v (omega (arith, r .first))))

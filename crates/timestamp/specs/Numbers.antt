@@ -1,5 +1,5 @@
--- A number of a text read at once: what both readers of a text make of it is what they make of its digits.
-use Prim.Native.Nat.{ℕ, _+_, _-_, _*_, _/_, _%_, _≤_, _<_, min}
+-- A number of a text read at once: what the reader of a text makes of it is what it makes of its digits.
+use Prim.Native.Nat.{ℕ, _+_, _-_, _*_, _/_, _%_, _≤_, _<_}
 use mathlib.Core.Path.{_≡_, refl, sym, ap, ap₂, _∙_}
 use mathlib.Core.List.{[], _∷_, _++_}
 use mathlib.Core.Bool.{Bool, true, false, _&&_, and-true}
@@ -8,21 +8,18 @@ use native.Mathlib.Numerals.{add-one}
 use lib.Dec.{leb}
 use lib.ListN.{length, getD, drop, length-append, length-drop, List·getD-eq-default}
 use lib.Seq.{drop-cons}
-use borrow.Author.Tests.{lt-ltb, le-ltb, le-leb, leb-true, leb-false, ne-eqb}
+use borrow.Author.Tests.{lt-ltb, le-ltb, le-leb, leb-true, leb-false}
 use Rattle.xml.specs.Bytes.{Bytes, isDigit, within}
 use Rattle.xml.specs.Truth.{clash, and-left, and-right}
 use Rattle.timestamp.specs.TimesLaws.{digit-low, digit-high}
-use Rattle.timestamp.specs.Belongs.{rests, step-digit}
-use Rattle.timestamp.specs.Digits.{digit, digits, digits-length, by-digits}
-use Rattle.timestamp.specs.Reading.{st, bad, pickS, more, steps}
+use Rattle.timestamp.specs.Digits.{digits, digits-length}
+use Rattle.timestamp.specs.Reading.{st, more, steps}
 use Rattle.timestamp.specs.Accepts.{digits-steps}
-use Rattle.timestamp.specs.Sound.{steps-bad}
-use Rattle.timestamp.specs.declared.text.Span.{Span}
 
--- from the place `at`, with the number m so far, to the place `to`, with the number n: nothing is read, or n in decimal where m is 0
-pub data Onward (l : Bytes) (at m n to : ℕ) : Type 0 where
-  stays : n ≡ m → to ≡ at → Onward l at m n to
-  reads : m ≡ 0 → 1 ≤ n → n < 1000 → drop at l ≡ digits n ++ drop to l → at ≤ to → to ≤ length l → Onward l at m n to
+-- the number n at the place `at`, in decimal, and the place `to` after it; n is 0 where none is read there
+pub data NumberAt (l : Bytes) (at n to : ℕ) : Type 0 where
+  stays : n ≡ 0 → to ≡ at → NumberAt l at n to
+  reads : 1 ≤ n → n < 1000 → drop at l ≡ digits n ++ drop to l → at ≤ to → to ≤ length l → NumberAt l at n to
 
 -- the first digit of a number of 1 to 999
 abbrev pub isFirst : ℕ → Bool
@@ -102,57 +99,34 @@ module _ (a : ℕ) (f : isFirst a ≡ true) where
       (omega arith, omega arith, rw (le-ltb n 10 (omega arith), le-ltb n 100 (omega arith), i, j, k) refl)
 
 module _ (l : Bytes) (at n : ℕ) (f : isFirst (getD l at 0) ≡ true) where
-  pub reads-one : at + 1 ≤ length l → n ≡ getD l at 0 - 48 → Onward l at 0 n (at + 1)
+  pub reads-one : at + 1 ≤ length l → n ≡ getD l at 0 - 48 → NumberAt l at n (at + 1)
   reads-one h e =
       let x = one-is (getD l at 0) f n e in
-      reads refl (x .0) (x .1) (drop-one l at h ∙ ap (λ (s : Bytes). s ++ drop (at + 1) l) (sym (x .2))) (omega arith) h
+      reads (x .0) (x .1) (drop-one l at h ∙ ap (λ (s : Bytes). s ++ drop (at + 1) l) (sym (x .2))) (omega arith) h
 
-  pub reads-two : at + 2 ≤ length l → isDigit (getD l (at + 1) 0) ≡ true → n ≡ getD l at 0 * 10 + getD l (at + 1) 0 - 528 → Onward l at 0 n (at + 2)
+  pub reads-two : at + 2 ≤ length l → isDigit (getD l (at + 1) 0) ≡ true → n ≡ getD l at 0 * 10 + getD l (at + 1) 0 - 528 → NumberAt l at n (at + 2)
   reads-two h g e =
       let x = two-is (getD l at 0) f n (getD l (at + 1) 0) g e in
-      reads refl (x .0) (x .1) (drop-two l at h ∙ ap (λ (s : Bytes). s ++ drop (at + 2) l) (sym (x .2))) (omega arith) h
+      reads (x .0) (x .1) (drop-two l at h ∙ ap (λ (s : Bytes). s ++ drop (at + 2) l) (sym (x .2))) (omega arith) h
 
   pub reads-three : at + 3 ≤ length l → isDigit (getD l (at + 1) 0) ≡ true → isDigit (getD l (at + 2) 0) ≡ true
-      → n ≡ getD l at 0 * 100 + getD l (at + 1) 0 * 10 + getD l (at + 2) 0 - 5328 → Onward l at 0 n (at + 3)
+      → n ≡ getD l at 0 * 100 + getD l (at + 1) 0 * 10 + getD l (at + 2) 0 - 5328 → NumberAt l at n (at + 3)
   reads-three h g k e =
       let x = three-is (getD l at 0) f n (getD l (at + 1) 0) (getD l (at + 2) 0) g k e in
-      reads refl (x .0) (x .1) (drop-three l at h ∙ ap (λ (s : Bytes). s ++ drop (at + 3) l) (sym (x .2))) (omega arith) h
+      reads (x .0) (x .1) (drop-three l at h ∙ ap (λ (s : Bytes). s ++ drop (at + 3) l) (sym (x .2))) (omega arith) h
 
   pub three-long : isDigit (getD l (at + 1) 0) ≡ true → isDigit (getD l (at + 2) 0) ≡ true
       → n ≡ getD l at 0 * 100 + getD l (at + 1) 0 * 10 + getD l (at + 2) 0 - 5328 → Ended l n (at + 3)
   three-long g k e = ended-long l n (at + 3) (omega (arith, low (getD l at 0) f, digit-low (getD l (at + 1) 0) g, digit-low (getD l (at + 2) 0) k))
 
 -- ---- what the readers make of it
-module _ {l : Bytes} {at m n to : ℕ} where
-  pub onward-most : Onward l at m n to → (b : ℕ) → 999 ≤ b → m ≤ b → n ≤ b
-  onward-most (stays e f) b h k = omega arith
-  onward-most (reads z p q e f g) b h k = omega arith
-
-  pub onward-to : Onward l at m n to → at ≤ length l → (at ≤ to) × (to ≤ length l)
-  onward-to (stays e f) h = (omega arith, omega arith)
-  onward-to (reads z p q e f g) h = (f, g)
-
+module _ {l : Bytes} {at n to : ℕ} where
   -- three digits at most are read
-  pub onward-near : Onward l at m n to → at ≤ length l → to ≤ at + 3
-  onward-near (stays e f) h = omega arith
-  onward-near (reads z p q e f g) h =
+  pub number-near : NumberAt l at n to → at ≤ length l → to ≤ at + 3
+  number-near (stays e f) h = omega arith
+  number-near (reads p q e f g) h =
       omega (arith, ap length e, length-append (digits n) (drop to l), length-drop at l, length-drop to l, digits-length n .1)
 
-  pub onward-steps : Onward l at m n to → (s : ℕ → Bool) (p lo : ℕ) (ok : Bool) → steps (pickS ok (st s p lo m) bad) (drop at l) ≡ steps (pickS ok (st s p lo n) bad) (drop to l)
-  onward-steps (stays e f) s p lo ok = rw (e, f)
-  onward-steps (reads z i j e f g) s p lo true = rw (z, e) (digits-steps s p lo n (drop to l) i j)
-  onward-steps (reads z i j e f g) s p lo false = steps-bad (drop at l) ∙ sym (steps-bad (drop to l))
-
-abbrev pub span : ℕ → ℕ → ℕ → Span
-span k a n = record { dashes = k; lo = a; n = n }
-
-rests-digit : (k a v n d : ℕ) (s : Bytes) → n < 100 → d < 10 → 0 < n + d → rests (span k a n) (digit d ∷ s) v ≡ rests (span k a (n * 10 + d)) s v
-unfolding rests
-rests-digit k a v n d s h i j =
-    let e : min 1000 (10 * n + (48 + d - 48)) ≡ n * 10 + d = omega arith in
-    rw (ne-eqb (48 + d) 44 (λ z. omega arith), rests)
-    (ap (λ (x : Span). rests x s v) (step-digit (span k a n) (48 + d) (λ z. omega arith) ∙ ap (span k a) e))
-
-pub onward-rests : {l : Bytes} {at m n to : ℕ} → Onward l at m n to → (k a v : ℕ) → rests (span k a m) (drop at l) v ≡ rests (span k a n) (drop to l) v
-onward-rests (stays e f) k a v = rw (e, f)
-onward-rests {l} {n = n} {to = to} (reads z i j e f g) k a v = rw (z, e) (by-digits (λ x s. rests (span k a x) s v) (rests-digit k a v) n (drop to l) i j)
+  pub number-steps : NumberAt l at n to → (s : ℕ → Bool) (p lo : ℕ) → steps (st s p lo 0) (drop at l) ≡ steps (st s p lo n) (drop to l)
+  number-steps (stays e f) s p lo = rw (e, f)
+  number-steps (reads i j e f g) s p lo = rw e (digits-steps s p lo n (drop to l) i j)

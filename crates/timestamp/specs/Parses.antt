@@ -12,7 +12,7 @@ use Rattle.xml.specs.BytesLaws.{same-is, same-self}
 use Rattle.xml.specs.Truth.{clash, not-so, and-left, and-right, and-both, or-first}
 use Rattle.timestamp.specs.Times.{runs, writeTimes, belongs, times-compute}
 use Rattle.timestamp.specs.TimesLaws.{inRun, in-run, runs-are}
-use Rattle.timestamp.specs.Set.{none, upTo, firstIn}
+use Rattle.timestamp.specs.Set.{emptySet, upTo, firstIn}
 use Rattle.timestamp.specs.First.{first-before}
 use Rattle.timestamp.specs.Runs.{Asc, inRuns, rest, asc-runs, below-runs, above-runs, runs-back}
 use Rattle.timestamp.specs.Listed.{listed, textOf, Only, listed-length, listed-at, only-zero, only-past, only-up-to, belongs-listed, text-none}
@@ -128,7 +128,7 @@ text-parse l s e = text-accepted l s (read-parsed l ∙ e)
 pub text-first : (l : Bytes) (s : ℕ → Bool) → parsed l ≡ accepted s → firstIn 1024 s 0 ≤ 999
 text-first l s e = go (decLe (firstIn 1024 s 0) 999)
   where
-    empty : 999 < firstIn 1024 s 0 → s ≡ none
+    empty : 999 < firstIn 1024 s 0 → s ≡ emptySet
     empty h = fun-ext (λ v. not-so (s v) (λ q. clash (sym q ∙ first-before s 1024 0 v (omega arith) (omega (arith, text-parse l s e .1 v q)))))
 
     go : Dec (firstIn 1024 s 0 ≤ 999) → firstIn 1024 s 0 ≤ 999

@@ -14,7 +14,7 @@ use Rattle.xml.specs.SplitLaws.{Free}
 use Rattle.xml.specs.Truth.{clash, and-both}
 use Rattle.timestamp.specs.Times.{writeRun}
 use Rattle.timestamp.specs.TimesLaws.{inRun, free-run}
-use Rattle.timestamp.specs.Set.{none}
+use Rattle.timestamp.specs.Set.{emptySet}
 use Rattle.timestamp.specs.Runs.{Asc, inRuns, rest, asc-weaken, runs-back}
 use Rattle.timestamp.specs.Listed.{listed, textOf, Only}
 use Rattle.timestamp.specs.Digits.{pick, digit, digits, by-digits, runText, tailText, text, run-text}
@@ -186,7 +186,7 @@ pub record Reads (q : ℕ × ℕ) (qs : List (ℕ × ℕ)) (l : Bytes) (lo hi to
 pub read-place : {l : Bytes} {at lo hi to : ℕ} (c : Place l at) → RunAt l at 0 lo hi to → Reads (c .q) (c .after) l lo hi to
 unfolding text readIn
 read-place {l} {at} c (nothing z f) =
-    let r : accepted (inRuns (c .q ∷ c .after)) ≡ refused = sym (runs-accepted (c .q) (c .after) (from-place c)) ∙ ap readIn (sym (drop-place c)) ∙ ap setIn (f none) in
+    let r : accepted (inRuns (c .q ∷ c .after)) ≡ refused = sym (runs-accepted (c .q) (c .after) (from-place c)) ∙ ap readIn (sym (drop-place c)) ∙ ap setIn (f emptySet) in
     let o : _≡_ {A = ℕ} 0 1 = cc in absurd (omega arith)
 read-place {l} {at} {lo} {hi} {to} c (run h k b i g e x d) =
     let z : to + 0 ≡ to = omega arith in

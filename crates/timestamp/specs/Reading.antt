@@ -11,7 +11,7 @@ use lib.Seq.{drop-cons}
 use borrow.Author.Tests.{ne-eqb, ltb-true}
 use Rattle.xml.specs.Bytes.{Bytes, isDigit, within}
 use Rattle.xml.specs.Truth.{and-left}
-use Rattle.timestamp.specs.Set.{none, joined, between}
+use Rattle.timestamp.specs.Set.{emptySet, joined, between}
 use Rattle.timestamp.specs.Parse.{Outcome, refused, accepted}
 
 -- the set so far, the bound that the next run must pass, the run's start or 0, and the number so far; or what is refused
@@ -68,7 +68,7 @@ setIn (st s p lo n) = accepted s
 
 -- what is read of a whole text
 unfoldable pub readIn : Bytes → Outcome
-readIn l = setIn (closeIn (steps (st none 0 0 0) l))
+readIn l = setIn (closeIn (steps (st emptySet 0 0 0) l))
 
 pub steps-on : (x : St) (l : List ℕ) (at : ℕ) → at < length l → steps x (drop at l) ≡ steps (stepIn x (getD l at 0)) (drop (at + 1) l)
 unfolding steps

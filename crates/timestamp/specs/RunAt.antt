@@ -8,15 +8,14 @@ use native.Mathlib.Decide.{decLt, ℕ-discrete}
 use lib.ListN.{length, getD, drop}
 use borrow.Author.Tests.{lt-ltb, le-ltb, eq-eqb, ne-eqb}
 use Rattle.xml.specs.Bytes.{Bytes, isDigit}
-use Rattle.xml.specs.Truth.{clash}
 use Rattle.timestamp.specs.Belongs.{comma-less, inside-default}
-use Rattle.timestamp.specs.Set.{none, joined, between}
+use Rattle.timestamp.specs.Set.{emptySet, joined, between}
 use Rattle.timestamp.specs.Digits.{digits, runText}
-use Rattle.timestamp.specs.Parse.{refused, accepted, parsed, pickOutcome}
+use Rattle.timestamp.specs.Parse.{refused, accepted, parsed}
 use Rattle.timestamp.specs.Reading.{St, st, bad, opens, closes, digitIn, dashIn, closeIn, stepIn, steps, setIn, readIn, steps-on, steps-end, step-digit, step-dash, step-comma, step-other}
 use Rattle.timestamp.specs.Accepts.{startOf, run-steps, run-close}
 use Rattle.timestamp.specs.Sound.{steps-bad}
-use Rattle.timestamp.specs.Numbers.{Onward, stays, reads, Ended, onward-steps, drop-one}
+use Rattle.timestamp.specs.Numbers.{NumberAt, stays, reads, Ended, number-steps, drop-one}
 use Rattle.timestamp.specs.Parses.{read-parsed}
 
 -- at the place `at` the run lo to hi begins past p, and ends before the place `to`; hi is 0 where what stands there is refused
@@ -62,19 +61,19 @@ module _ (l : Bytes) (s : ℕ → Bool) (p lo n to : ℕ) (x : Ended l n to) whe
 pub dash-inside : (l : Bytes) (to : ℕ) → getD l to 44 ≡ 45 → to < length l
 dash-inside l to d = comma-less l to (λ e. omega arith)
 
-module _ {l : Bytes} {at p lo to : ℕ} (o : Onward l at 0 lo to) (x : Ended l lo to) where
+module _ {l : Bytes} {at p lo to : ℕ} (o : NumberAt l at lo to) (x : Ended l lo to) where
   -- no number past the bound
   pub none-past : {u v : ℕ} → lo ≤ p → RunAt l at p u 0 v
-  none-past h = nothing refl (λ s. ap closeIn (onward-steps o s p 0 true) ∙ stuck l s p 0 lo to x (le-ltb p lo h))
+  none-past h = nothing refl (λ s. ap closeIn (number-steps o s p 0) ∙ stuck l s p 0 lo to x (le-ltb p lo h))
 
   -- a number alone
   pub run-alone : p < lo → (getD l to 44 ≡ 45 → ⊥) → RunAt l at p lo lo to
   unfolding runText
   run-alone h d = go o
     where
-      go : Onward l at 0 lo to → RunAt l at p lo lo to
+      go : NumberAt l at lo to → RunAt l at p lo lo to
       go (stays e f) = absurd (omega arith)
-      go (reads z i j e f g) = run h (omega arith) j f g (rw (le-ltb lo lo (omega arith)) e) x (λ _. d)
+      go (reads i j e f g) = run h (omega arith) j f g (rw (le-ltb lo lo (omega arith)) e) x (λ _. d)
 
   -- a number with a dash after it
   module _ (h : p < lo) (d : getD l to 44 ≡ 45) where
@@ -82,30 +81,30 @@ module _ {l : Bytes} {at p lo to : ℕ} (o : Onward l at 0 lo to) (x : Ended l l
     dash-is = inside-default l to (dash-inside l to d) ∙ d
 
     -- and a second one
-    module _ {hi end : ℕ} (q : Onward l (to + 1) 0 hi end) (y : Ended l hi end) where
+    module _ {hi end : ℕ} (q : NumberAt l (to + 1) hi end) (y : Ended l hi end) where
       pub none-up : {u v : ℕ} → hi ≤ lo → RunAt l at p u 0 v
       unfolding dashIn
       none-up k =
           nothing refl
-          (λ s. ap closeIn (onward-steps o s p 0 true ∙ steps-on (st s p 0 lo) l to (dash-inside l to d)
-          ∙ ap (λ (z : St). steps z (drop (to + 1) l)) (step-dash (st s p 0 lo) (getD l to 0) dash-is ∙ rw (lt-ltb p lo h)) ∙ onward-steps q s p lo true)
+          (λ s. ap closeIn (number-steps o s p 0 ∙ steps-on (st s p 0 lo) l to (dash-inside l to d)
+          ∙ ap (λ (z : St). steps z (drop (to + 1) l)) (step-dash (st s p 0 lo) (getD l to 0) dash-is ∙ rw (lt-ltb p lo h)) ∙ number-steps q s p lo)
           ∙ stuck l s p lo hi end y (rw (ne-eqb lo 0 (omega arith)) (le-ltb lo hi k)))
 
       pub run-both : lo < hi → RunAt l at p lo hi end
       unfolding runText
       run-both k = go o q
         where
-          go : Onward l at 0 lo to → Onward l (to + 1) 0 hi end → RunAt l at p lo hi end
+          go : NumberAt l at lo to → NumberAt l (to + 1) hi end → RunAt l at p lo hi end
           go (stays e f) _ = absurd (omega arith)
-          go (reads z i j e f g) (stays e′ f′) = absurd (omega arith)
-          go (reads z i j e f g) (reads z′ i′ j′ e′ f′ g′) =
+          go (reads i j e f g) (stays e′ f′) = absurd (omega arith)
+          go (reads i j e f g) (reads i′ j′ e′ f′ g′) =
               run h (omega arith) j′ (omega arith) g′
               (rw (lt-ltb lo hi k) (e ∙ ap (λ (t : Bytes). digits lo ++ t) (drop-one l to (omega (arith, dash-inside l to d)) ∙ ap₂ (λ (b : ℕ) (t : Bytes). b ∷ t) dash-is e′))) y (λ z. absurd (omega arith))
 
 -- ---- what the reader makes of it, which has the set s so far
-module _ (l : Bytes) (s : ℕ → Bool) (p at : ℕ) (inv : closeIn (steps (st s p 0 0) (drop at l)) ≡ closeIn (steps (st none 0 0 0) l)) where
+module _ (l : Bytes) (s : ℕ → Bool) (p at : ℕ) (inv : closeIn (steps (st s p 0 0) (drop at l)) ≡ closeIn (steps (st emptySet 0 0 0) l)) where
   after-run : (lo hi to : ℕ) → p < lo → lo ≤ hi → hi < 1000 → drop at l ≡ runText lo hi (drop to l)
-      → closeIn (steps (st s p (startOf lo hi) hi) (drop to l)) ≡ closeIn (steps (st none 0 0 0) l)
+      → closeIn (steps (st s p (startOf lo hi) hi) (drop to l)) ≡ closeIn (steps (st emptySet 0 0 0) l)
   after-run lo hi to h k b e = sym (ap closeIn (ap (steps (st s p 0 0)) e ∙ run-steps s p lo hi h k b (drop to l))) ∙ inv
 
   -- nothing
@@ -140,7 +139,7 @@ module _ (l : Bytes) (s : ℕ → Bool) (p at : ℕ) (inv : closeIn (steps (st s
 
   -- before a comma
   pub run-comma : {lo hi to : ℕ} → RunAt l at p lo hi to → (hi ≡ 0 → ⊥) → to < length l → getD l to 0 ≡ 44 → (t : ℕ → Bool) → t ≡ joined s (between lo hi)
-      → closeIn (steps (st t (hi + 1) 0 0) (drop (to + 1) l)) ≡ closeIn (steps (st none 0 0 0) l)
+      → closeIn (steps (st t (hi + 1) 0 0) (drop (to + 1) l)) ≡ closeIn (steps (st emptySet 0 0 0) l)
   run-comma {lo} {hi} {to} (nothing e f) z w c t q = absurd (z e)
   run-comma {lo} {hi} {to} (run h k b a g e x d) z w c t q =
       sym (ap closeIn (steps-on (st s p (startOf lo hi) hi) l to w

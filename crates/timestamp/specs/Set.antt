@@ -10,8 +10,9 @@ use Rattle.timestamp.specs.Bits.{bit}
 unfoldable pub setOf : List ℕ → ℕ → Bool
 setOf w v = bit (getD w (v / 64) 0) (v % 64)
 
-abbrev pub none : ℕ → Bool
-none v = false
+-- the set that no number is in
+abbrev pub emptySet : ℕ → Bool
+emptySet v = false
 
 -- the numbers 1 up to n
 abbrev pub upTo : ℕ → ℕ → Bool
@@ -51,10 +52,10 @@ unfoldable pub sameSet : (ℕ → Bool) → (ℕ → Bool) → Bool
 sameSet s t = every 1024 (λ v. Bool·beq (s v) (t v))
 
 abbrev pub isNone : (ℕ → Bool) → Bool
-isNone s = sameSet s none
+isNone s = sameSet s emptySet
 
 abbrev pub apart : (ℕ → Bool) → (ℕ → Bool) → Bool
-apart s t = sameSet (shared s t) none
+apart s t = sameSet (shared s t) emptySet
 
 -- every number of s is one of t
 abbrev pub subset : (ℕ → Bool) → (ℕ → Bool) → Bool

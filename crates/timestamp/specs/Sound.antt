@@ -10,7 +10,7 @@ use borrow.Author.Tests.{lt-ltb, le-ltb, eq-eqb, ne-eqb, ltb-true, eqb-true}
 use Rattle.xml.specs.Bytes.{isDigit, any}
 use Rattle.xml.specs.Truth.{and-left, and-right}
 use Rattle.timestamp.specs.TimesLaws.{inRun, digit-low, digit-high}
-use Rattle.timestamp.specs.Set.{none, joined, between}
+use Rattle.timestamp.specs.Set.{emptySet, joined, between}
 use Rattle.timestamp.specs.Runs.{Asc, inRuns}
 use Rattle.timestamp.specs.Digits.{pick, digits, runText, tailText, text}
 use Rattle.timestamp.specs.Parse.{accepted, refused}
@@ -212,5 +212,5 @@ sound (b ∷ bs) S s p lo n ok r = one-step S bs (λ s′ p′ lo′ n′ ok′ 
 pub accepted-runs : (l : List ℕ) (S : ℕ → Bool) → readIn l ≡ accepted S → (r : ℕ × ℕ) × (rs : List (ℕ × ℕ)) × Asc 0 (r ∷ rs) × (l ≡ text (r ∷ rs)) × (S ≡ inRuns (r ∷ rs))
 unfolding readIn cur num
 accepted-runs l S r =
-    let f = sound l S none 0 0 0 (record { small = omega arith; past = λ q. absurd (q refl) }) r in
+    let f = sound l S emptySet 0 0 0 (record { small = omega arith; past = λ q. absurd (q refl) }) r in
     ((f .lo, f .hi), f .rest, f .asc, f .is-text, f .is-set)

@@ -1,5 +1,5 @@
 -- A set taken out of another, word by word: what is left, and whether all its members were there.
-use Prim.Native.Nat.{ℕ, _+_, _*_, _/_, _%_, _^_, _≤_, _<_}
+use Prim.Native.Nat.{ℕ, _+_, _/_, _%_, _^_, _≤_, _<_}
 use mathlib.Core.Path.{_≡_, refl, sym, ap, ap₂, _∙_, fun-ext}
 use mathlib.Core.List.{List}
 use mathlib.Core.Bool.{Bool, true, false, not, _&&_, xor, and-true, Bool·beq}
@@ -14,7 +14,7 @@ use borrow.Author.Tests.{eqb-true, eq-eqb, leb-true}
 use Rattle.xml.specs.Truth.{by-test, clash, not-so, and-left, and-right}
 use Rattle.timestamp.specs.TimesLaws.{bool-eq}
 use Rattle.timestamp.specs.Bits.{bit, bit-and, bit-xor, bit-none}
-use Rattle.timestamp.specs.Set.{setOf, none, every, sameSet, between, without, subset}
+use Rattle.timestamp.specs.Set.{setOf, emptySet, every, sameSet, between, without, subset}
 use Rattle.timestamp.specs.Words.{rangeWord, range-bit}
 use Rattle.timestamp.specs.Tests.{told-words, subset-tells, subset-told, same-words}
 
@@ -65,7 +65,7 @@ taking-more a f from i w p l h z =
 abbrev lacked : (ℕ → Bool) → (ℕ → Bool) → ℕ → Bool
 lacked t s v = xor (t v) (s v) && s v
 
-lack-none : (t s : ℕ → Bool) → sameSet (lacked t s) none ≡ subset s t
+lack-none : (t s : ℕ → Bool) → sameSet (lacked t s) emptySet ≡ subset s t
 unfolding sameSet xor
 lack-none t s = ap (every 1024) (fun-ext (λ v. go (t v) (s v)))
   where
@@ -83,7 +83,7 @@ module _ (a : List ℕ) (f : ℕ → ℕ) (s : ℕ → Bool) (bits : (v : ℕ) �
   -- a set that has them all lacks none in a word
   pub has-all : (i : ℕ) → i < 16 → f i < 2 ^ 64 → subset s (setOf a) ≡ true → lackAt a f i ≡ 0
   has-all i h l e =
-      told-words (lackAt a f) (λ k. 0) (lacked (setOf a) s) none lack-bit (λ v. bit-none _) (lack-none (setOf a) s ∙ e) i h
+      told-words (lackAt a f) (λ k. 0) (lacked (setOf a) s) emptySet lack-bit (λ v. bit-none _) (lack-none (setOf a) s ∙ e) i h
       (omega (arith, and-le-r (xorAt a f i) (f i))) (omega arith)
 
   -- a word that lacks some of them

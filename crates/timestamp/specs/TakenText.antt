@@ -5,13 +5,13 @@ use mathlib.Core.List.{List, [], _∷_}
 use mathlib.Core.Bool.{Bool, true, false, not, _&&_, _||_, and-true}
 use native.Mathlib.Omega.{arith}
 use native.Mathlib.Decide.{decLt, ℕ-discrete}
-use lib.Dec.{eqb, leb, ltb}
+use lib.Dec.{eqb, leb}
 use lib.ListN.{length, getD, drop}
 use borrow.Author.Tests.{eq-eqb, ne-eqb, le-leb, lt-leb, leb-true}
 use Rattle.xml.specs.Bytes.{Bytes, isDigit}
 use Rattle.xml.specs.Truth.{both, clash, not-so, and-left, and-right, or-first, or-second}
 use Rattle.timestamp.specs.TimesLaws.{or-by}
-use Rattle.timestamp.specs.Set.{setOf, none, between, joined, without, subset, firstIn}
+use Rattle.timestamp.specs.Set.{setOf, emptySet, between, joined, without, subset, firstIn}
 use Rattle.timestamp.specs.Tests.{subset-tells, subset-told}
 use Rattle.timestamp.specs.First.{first-is}
 use Rattle.timestamp.specs.Parse.{Outcome, refused, accepted, parsed}
@@ -39,7 +39,7 @@ isAccepted refused = false
 isAccepted (accepted s) = true
 
 members : Outcome → ℕ → Bool
-members refused = none
+members refused = emptySet
 members (accepted s) = s
 
 not-both : {A : Type 0} {o : Outcome} {s : ℕ → Bool} → refused ≡ o → o ≡ accepted s → A
@@ -92,7 +92,7 @@ module _ (v : ℕ) where
   read-has (st t p lo n) h r e = sym (ap (λ (u : ℕ → Bool). u v) (same-read r e)) ∙ h
 
 -- a run that is read is in the set
-module _ (l : Bytes) (s : ℕ → Bool) (p at : ℕ) (inv : closeIn (steps (st s p 0 0) (drop at l)) ≡ closeIn (steps (st none 0 0 0) l)) where
+module _ (l : Bytes) (s : ℕ → Bool) (p at : ℕ) (inv : closeIn (steps (st s p 0 0) (drop at l)) ≡ closeIn (steps (st emptySet 0 0 0) l)) where
   run-member : {lo hi to : ℕ} → RunAt l at p lo hi to → (hi ≡ 0 → ⊥) → (t : ℕ → Bool) → parsed l ≡ accepted t → (v : ℕ) → between lo hi v ≡ true → t v ≡ true
   unfolding Has readIn
   run-member {lo} {hi} {to} r z t e v b = go (decLt to (length l)) (ℕ-discrete (getD l to 0) 44)
@@ -102,7 +102,7 @@ module _ (l : Bytes) (s : ℕ → Bool) (p at : ℕ) (inv : closeIn (steps (st s
 
       go : Dec (to < length l) → Dec (getD l to 0 ≡ 44) → t v ≡ true
       go (yes q) (yes c) =
-          read-has v (closeIn (steps (st none 0 0 0) l))
+          read-has v (closeIn (steps (st emptySet 0 0 0) l))
           (rw (sym (run-comma l s p at inv r z q c more-set refl)) (close-has v _ (steps-has v (drop (to + 1) l) (st more-set (hi + 1) 0 0) (or-second (s v) (between lo hi v) b)))) (read-parsed l) e
       go (yes q) (no c) = not-both (run-other l s p at inv r z q c) e
       go (no q) c = sym (ap (λ (u : ℕ → Bool). u v) (same-read (run-last l s p at inv r z (omega arith) more-set refl) e)) ∙ or-second (s v) (between lo hi v) b
@@ -110,12 +110,12 @@ module _ (l : Bytes) (s : ℕ → Bool) (p at : ℕ) (inv : closeIn (steps (st s
 -- ---- on the way: the runs before `at` are taken out of a, which leaves w
 -- the set's first number is `first`; or it has none yet
 pub data Begins (first p : ℕ) (s : ℕ → Bool) : Type 0 where
-  not-yet : first ≡ 0 → s ≡ none → Begins first p s
+  not-yet : first ≡ 0 → s ≡ emptySet → Begins first p s
   begun : 0 < first → first < p → s first ≡ true → ((u : ℕ) → u < first → s u ≡ false) → Begins first p s
 
 pub record TakingText (l : Bytes) (a : List ℕ) (first p at : ℕ) (w : List ℕ) : Type 0 where
   pub set : ℕ → Bool
-  pub reads : closeIn (steps (st set p 0 0) (drop at l)) ≡ closeIn (steps (st none 0 0 0) l)
+  pub reads : closeIn (steps (st set p 0 0) (drop at l)) ≡ closeIn (steps (st emptySet 0 0 0) l)
   pub inside : at ≤ length l
   pub size : length w ≡ 16
   pub left : setOf w ≡ without (setOf a) set
@@ -126,12 +126,12 @@ pub record TakingText (l : Bytes) (a : List ℕ) (first p at : ℕ) (w : List �
 pub text-start : (l : Bytes) (a : List ℕ) → length a ≡ 16 → TakingText l a 0 0 0 a
 text-start l a e =
     record {
-      set = none;
+      set = emptySet;
       reads = refl;
       inside = omega arith;
       size = e;
       left = fun-ext (λ v. sym (and-true (setOf a v)));
-      had = subset-told none (setOf a) (λ v l q. clash (sym q));
+      had = subset-told emptySet (setOf a) (λ v l q. clash (sym q));
       under = λ v q. clash (sym q);
       begins = not-yet refl refl;
     }

@@ -5,13 +5,11 @@ use mathlib.Core.List.{List}
 use mathlib.Core.Bool.{Bool, true, false, _&&_, Bool·beq}
 use native.Mathlib.Omega.{arith}
 use native.Mathlib.Decide.{decLt}
-use lib.Bits.{and-lt}
 use lib.ListN.{getD}
 use Rattle.xml.specs.Truth.{clash, not-so, and-left, and-right, and-both}
 use Rattle.timestamp.specs.TimesLaws.{beq-is, beq-self}
-use Rattle.timestamp.specs.Bits.{bit, bit-and, bits-ext}
-use Rattle.timestamp.specs.Set.{setOf, none, every, sameSet, shared, apart, subset}
-use Rattle.timestamp.specs.Words.{andAt}
+use Rattle.timestamp.specs.Bits.{bit, bits-ext}
+use Rattle.timestamp.specs.Set.{setOf, emptySet, every, sameSet, shared, apart, subset}
 
 pub every-all : (n : ℕ) (p : ℕ → Bool) → ((v : ℕ) → v < n → p v ≡ true) → every n p ≡ true
 unfolding every
@@ -37,13 +35,13 @@ unfolding sameSet
 same-told s t h = every-all 1024 _ (λ v l. ap (Bool·beq (s v)) (sym (h v l)) ∙ beq-self (s v))
 
 pub apart-tells : (s t : ℕ → Bool) → apart s t ≡ true → (v : ℕ) → v < 1024 → s v ≡ true → t v ≡ true → ⊥
-apart-tells s t e v h p q = clash (sym (and-both (s v) (t v) p q) ∙ same-tells (shared s t) none e v h)
+apart-tells s t e v h p q = clash (sym (and-both (s v) (t v) p q) ∙ same-tells (shared s t) emptySet e v h)
 
 pub subset-tells : (s t : ℕ → Bool) → subset s t ≡ true → (v : ℕ) → v < 1024 → s v ≡ true → t v ≡ true
 subset-tells s t e v h p = and-right (s v) (t v) (same-tells (shared s t) s e v h ∙ p)
 
 pub apart-told : (s t : ℕ → Bool) → ((v : ℕ) → v < 1024 → s v ≡ true → t v ≡ true → ⊥) → apart s t ≡ true
-apart-told s t h = same-told (shared s t) none (λ v l. not-so (s v && t v) (λ e. h v l (and-left (s v) (t v) e) (and-right (s v) (t v) e)))
+apart-told s t h = same-told (shared s t) emptySet (λ v l. not-so (s v && t v) (λ e. h v l (and-left (s v) (t v) e) (and-right (s v) (t v) e)))
 
 pub subset-told : (s t : ℕ → Bool) → ((v : ℕ) → v < 1024 → s v ≡ true → t v ≡ true) → subset s t ≡ true
 subset-told s t h = same-told (shared s t) s (λ v l. only (s v) (t v) (h v l))
@@ -80,12 +78,3 @@ module _ (a b : List ℕ) where
       → (getD a k 0 ≡ getD b k 0 → ⊥) → sameSet (setOf a) (setOf b) ≡ false
   unfolding setOf
   other-words k = differ (λ k. getD a k 0) (λ k. getD b k 0) (setOf a) (setOf b) (λ v. refl) (λ v. refl) k
-
-  pub subset-words : ((k : ℕ) → k < 16 → andAt a b k ≡ getD a k 0) → subset (setOf a) (setOf b) ≡ true
-  unfolding setOf
-  subset-words h = agree (andAt a b) (λ k. getD a k 0) _ _ (λ v. bit-and _ _ _) (λ v. refl) h
-
-  pub leaving-words : (k : ℕ) → k < 16 → getD a k 0 < 2 ^ 64 → getD b k 0 < 2 ^ 64
-      → (andAt a b k ≡ getD a k 0 → ⊥) → subset (setOf a) (setOf b) ≡ false
-  unfolding setOf
-  leaving-words k hk ha hb ne = differ (andAt a b) (λ k. getD a k 0) _ _ (λ v. bit-and _ _ _) (λ v. refl) k hk (and-lt 64 (getD a k 0) (getD b k 0) ha hb) ha ne

@@ -2,10 +2,10 @@
 use Prim.Native.Nat.{ℕ, zero, suc, _+_, _-_, _*_, _/_, _%_}
 use Prim.Native.Char.{code}
 use mathlib.Core.Path.{_≡_, refl}
-use mathlib.Core.Bool.{Bool, true, false, not, _&&_, _||_, Bool·beq}
+use mathlib.Core.Bool.{Bool, true, false, _&&_, Bool·beq}
 use mathlib.Core.List.{List, [], _∷_, _++_, map}
-use lib.Dec.{eqb, leb, ltb}
-use lib.ListN.{length, replicate}
+use lib.Dec.{eqb, leb}
+use lib.ListN.{replicate}
 use Rattle.xml.specs.Bytes.{Bytes, bytes, any, sameBy, split, joinBy, among, bytes-compute}
 
 abbrev pub Times : Type 0

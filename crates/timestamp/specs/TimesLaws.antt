@@ -200,11 +200,6 @@ unfolding any joinBy
 texts-are i [] l h = none-text i l
 texts-are i (r ∷ rs) l h = some-texts i r rs h
 
--- just the numbers of its runs belong to the text of some
-pub belongs-runs : (i : ℕ) (r : ℕ × ℕ) (rs : List (ℕ × ℕ)) → Within 1 (r ∷ rs) → belongs i (joinBy (bytes ",") (map writeRun (r ∷ rs))) ≡ any (inRun i) (r ∷ rs)
-unfolding belongs bytes
-belongs-runs i r rs h = some-texts i r rs h
-
 -- "In text, a number belongs to it when one of its runs holds that number": just the numbers of the set
 pub belongs-times : (i : ℕ) (t : Times) → 1 ≤ i → length t ≤ 999 → belongs i (writeTimes t) ≡ getD t (i - 1) false
 unfolding belongs writeTimes bytes

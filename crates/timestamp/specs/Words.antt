@@ -8,13 +8,13 @@ use native.Mathlib.Numerals.{add-one}
 use native.Mathlib.Decide.{decLt, ℕ-discrete}
 use native.Mathlib.Nat.{one-mul, mod-eq-of-lt}
 use lib.Dec.{eqb, leb, ltb, leb·suc-suc}
-use lib.Bits.{bitAnd, bitOr, bitXor}
+use lib.Bits.{bitOr, bitXor}
 use lib.Pow.{pow-lt}
 use lib.ListN.{length, getD, set, length-set, replicate, getD-replicate, List·getD-eq-default}
 use lib.Seq.{getD-set-same, getD-set-other}
 use borrow.Author.Tests.{lt-ltb, le-ltb, le-leb, lt-leb, eq-eqb, ne-eqb}
 use Rattle.timestamp.specs.Bits.{bit, bit-or, bit-xor, bit-none, bit-pow, bit-ones}
-use Rattle.timestamp.specs.Set.{setOf, none, adding, joined, between, outside}
+use Rattle.timestamp.specs.Set.{setOf, emptySet, adding, joined, between, outside}
 
 -- ---- a loop that fills sixteen words
 -- the first i of them are f's
@@ -49,9 +49,6 @@ filled-set f i w s p l h z = fun-ext (λ v. go v (decLt (v / 64) 16))
     go v (no q) = past w (p .size) v (omega arith) ∙ sym (z v (omega arith))
 
 -- ---- what the loops fill
-abbrev pub andAt : List ℕ → List ℕ → ℕ → ℕ
-andAt a b k = bitAnd (getD a k 0) (getD b k 0)
-
 abbrev pub notAt : List ℕ → ℕ → ℕ
 notAt a k = bitXor (getD a k 0) (2 ^ 64 - 1)
 
@@ -128,9 +125,9 @@ with-set a v h = fun-ext (λ u. go u (ℕ-discrete (u / 64) (v / 64)))
         ap (λ (x : ℕ). bit x (u % 64)) (getD-set-other a (v / 64) (u / 64) word 0 e)
         ∙ sym (ap (λ (x : Bool). x || bit (getD a (u / 64) 0) (u % 64)) (ne-eqb u v (λ r. e (ap (λ (n : ℕ). n / 64) r))))
 
-pub zeros-none : setOf (replicate 16 0) ≡ none
+pub zeros-none : setOf (replicate 16 0) ≡ emptySet
 zeros-none =
-    filled-set (λ k. 0) 16 (replicate 16 0) none (record { size = refl; are = λ k l. getD-replicate 16 k 0 0 l }) (omega arith) (λ v q. bit-none _) (λ v q. refl)
+    filled-set (λ k. 0) 16 (replicate 16 0) emptySet (record { size = refl; are = λ k l. getD-replicate 16 k 0 0 l }) (omega arith) (λ v q. bit-none _) (λ v q. refl)
 
 -- ---- a range put into sixteen words
 -- one that stands in one word
@@ -176,7 +173,7 @@ joined-parts s lo hi h =
         rw (le-leb lo v (omega arith), lt-leb v a x, le-leb b v (omega arith), lt-leb v c y, le-leb d v (omega arith), lt-leb v hi z)
 
 -- one whose end is before its start
-pub between-none : (lo hi : ℕ) → hi < lo → none ≡ between lo hi
+pub between-none : (lo hi : ℕ) → hi < lo → emptySet ≡ between lo hi
 between-none lo hi h = fun-ext (λ v. go v (decLt v lo))
   where
     go : (v : ℕ) → Dec (v < lo) → false ≡ between lo hi v

@@ -1,12 +1,13 @@
 // The text of a changed set, made from the set's own: the bytes of it that stay, and what comes after them.
-use crate::text::narrow;
+use crate::text::number_at;
 use crate::text::run_at;
 ghost use mathlib.Core.Path.{_≡_};
-ghost use Prim.Native.Nat.{_+_, _<_, _≤_};
+ghost use Prim.Native.Nat.{_+_, _-_, _<_, _≤_};
 ghost use lib.ListN.{length};
 ghost use Rattle.timestamp.specs.Times.{decimal};
 ghost use Rattle.timestamp.specs.Set.{adding, cutAt};
 ghost use Rattle.timestamp.specs.Place.{IsSet, IsSetTo, LastStart};
+ghost use Rattle.timestamp.specs.Narrow.{NextStart, Bracket, Narrowed};
 ghost use Rattle.timestamp.specs.Change.{Changes};
 
 // The first `to` bytes stay; the tail is that of `put_tail`.
@@ -67,6 +68,59 @@ pub fn grown(text: &[u8], n: usize) -> Change
         to: at + size(lo) + 1,
         tail: 3,
     }
+}
+
+// The place after the next comma from a place on, or the text's end.
+fn next_start(text: &[u8], at: usize) -> usize
+    requires { ⌜ at ≤ length (now text) ⌝ }
+    ensures { λ r. ⌜ NextStart (now (text .entry)) at r ⌝ }
+{
+    let mut i = at;
+    while i < text.len() {
+        if text[i] == b',' {
+            return i + 1;
+        }
+        i += 1;
+    }
+    i
+}
+
+// Two places of a text, between which a run is sought.
+pub struct Places {
+    pub lo: usize,
+    pub hi: usize,
+}
+
+// The half of the places where the last run is that begins at v or below it.
+fn halve(text: &[u8], lo: usize, hi: usize, v: usize) -> Places
+    requires { ⌜ Bracket (now text) v lo hi × (lo + 1 < hi) ⌝ }
+    ensures { λ r. ⌜ Bracket (now (text .entry)) v (r .lo) (r .hi) × (r .hi - r .lo < hi - lo) ⌝ }
+{
+    let mid = lo + (hi - lo) / 2;
+    let next = next_start(text, mid - 1);
+    if hi <= next {
+        return Places { lo: lo, hi: mid };
+    }
+    let first = number_at(text, next);
+    if first.n <= v {
+        return Places { lo: next, hi: hi };
+    }
+    Places { lo: lo, hi: mid }
+}
+
+// The place of the last run that begins at v or below it, or of the first run.
+fn narrow(text: &[u8], v: usize) -> usize
+    requires { ⌜ IsSet (now text) ⌝ }
+    ensures { λ r. ⌜ Narrowed (now (text .entry)) v r ⌝ }
+{
+    let mut lo = 0;
+    let mut hi = text.len();
+    while lo + 1 < hi {
+        let part = halve(text, lo, hi, v);
+        lo = part.lo;
+        hi = part.hi;
+    }
+    lo
 }
 
 // The text of a set, cut at i: no number above i stays. One run is read.

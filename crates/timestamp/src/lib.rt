@@ -11,7 +11,7 @@ ghost use lib.Bits.{bitAnd, bitXor};
 ghost use lib.Count.{trailingZeros};
 ghost use Rattle.timestamp.specs.Words.{maskAt, Stored};
 ghost use Rattle.timestamp.specs.Taken.{TakenWord, Taken};
-ghost use Rattle.timestamp.specs.Set.{setOf, none, upTo, between, adding, cutAt, joined, without, outside, sameSet, isNone, subset, firstIn};
+ghost use Rattle.timestamp.specs.Set.{setOf, emptySet, upTo, between, adding, joined, outside, sameSet, isNone, subset, firstIn};
 
 pub struct Timestamp {
     pub words: [u64; 16],
@@ -180,14 +180,6 @@ fn gap_in(words: &[u64; 16], v: usize) -> usize
     }
 }
 
-// Whether the words hold no number.
-pub fn is_none(words: &[u64; 16]) -> bool
-    requires { ⌜ length (now words) ≡ 16 ⌝ }
-    ensures { λ r. ⌜ r ≡ isNone (setOf (now (words .entry))) ⌝ }
-{
-    first_in(words, 0) == 1024
-}
-
 // The bits of the word k that stand for numbers below n.
 fn below(n: usize, k: usize) -> u64
     requires { ⌜ k < 16 ⌝ }
@@ -238,42 +230,12 @@ fn take_run(left: &mut [u64; 16], lo: usize, hi: usize) -> bool
     take_words(left, lo, hi)
 }
 
-// Every number of the first words' set is one of the second's, and the second has more.
-pub fn is_part(a: &[u64; 16], b: &[u64; 16]) -> bool
-    requires { ⌜ (length (now a) ≡ 16) × (length (now b) ≡ 16) ⌝ }
-    ensures { λ r. ⌜ r ≡ (subset (setOf (now (a .entry))) (setOf (now (b .entry))) && not (sameSet (setOf (now (a .entry))) (setOf (now (b .entry))))) ⌝ }
-{
-    let mut lack = 0u64;
-    let mut more = 0u64;
-    for k in 0..16 {
-        let x = differing(b[k], a[k]);
-        lack = lack | common(x, a[k]);
-        more = more | x;
-    }
-    if lack != 0 {
-        return false;
-    }
-    more != 0
-}
-
 impl Timestamp {
+    // The set that no number is in.
     pub fn empty() -> Self
-        ensures { λ r. ⌜ setOf (r .words) ≡ none ⌝ }
+        ensures { λ r. ⌜ setOf (r .words) ≡ emptySet ⌝ }
     {
         Timestamp { words: [0u64; 16] }
-    }
-
-    // The numbers lo to hi.
-    pub fn range(lo: usize, hi: usize) -> Self
-        requires { ⌜ (lo ≤ hi + 1) × (hi < 1024) ⌝ }
-        ensures { λ r. ⌜ setOf (r .words) ≡ between lo hi ⌝ }
-    {
-        if hi < lo {
-            return Timestamp::empty();
-        }
-        let mut w = [0u64; 16];
-        fill(&mut w, lo, hi);
-        Timestamp { words: w }
     }
 
     // The numbers 1 to n.
@@ -281,16 +243,22 @@ impl Timestamp {
         requires { ⌜ n < 1024 ⌝ }
         ensures { λ r. ⌜ setOf (r .words) ≡ upTo n ⌝ }
     {
-        Timestamp::range(1, n)
+        if n == 0 {
+            return Timestamp::empty();
+        }
+        let mut words = [0u64; 16];
+        fill(&mut words, 1, n);
+        Timestamp { words }
     }
 
-    pub fn with(mut self, v: usize) -> Self
+    // The set with v added.
+    pub fn with(self, v: usize) -> Self
         requires { ⌜ v < 1024 ⌝ }
         ensures { λ r. ⌜ setOf (r .words) ≡ adding v (setOf (self .words)) ⌝ }
     {
-        let k = v / 64;
-        self.words[k] = (1u64 << (v % 64)) | self.words[k];
-        self
+        let mut words = self.words;
+        add(&mut words, v);
+        Timestamp { words }
     }
 
     // The numbers below 1024 that are not in the set.
@@ -304,6 +272,7 @@ impl Timestamp {
         Timestamp { words: w }
     }
 
+    // The two sets have the same numbers.
     pub fn same(self, other: Timestamp) -> bool
         ensures { λ r. ⌜ r ≡ sameSet (setOf (self .words)) (setOf (other .words)) ⌝ }
     {
@@ -315,23 +284,29 @@ impl Timestamp {
         true
     }
 
+    // No number is in the set.
     pub fn is_empty(self) -> bool
         ensures { λ r. ⌜ r ≡ isNone (setOf (self .words)) ⌝ }
     {
         let words = self.words;
-        is_none(&words)
+        first_in(&words, 0) == 1024
     }
 
-    // Every number is one of the other's.
-    pub fn within(self, other: Timestamp) -> bool
-        ensures { λ r. ⌜ r ≡ subset (setOf (self .words)) (setOf (other .words)) ⌝ }
+    // Every number is one of the other's, and the other has more.
+    pub fn is_part(self, other: Timestamp) -> bool
+        ensures { λ r. ⌜ r ≡ (subset (setOf (self .words)) (setOf (other .words)) && not (sameSet (setOf (self .words)) (setOf (other .words)))) ⌝ }
     {
+        let mut lack = 0u64;
+        let mut more = 0u64;
         for k in 0..16 {
-            if self.words[k] & other.words[k] != self.words[k] {
-                return false;
-            }
+            let x = differing(other.words[k], self.words[k]);
+            lack = lack | common(x, self.words[k]);
+            more = more | x;
         }
-        true
+        if lack != 0 {
+            return false;
+        }
+        more != 0
     }
 
     // The least member from v on, or 1024 where there is none.

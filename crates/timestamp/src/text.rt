@@ -8,12 +8,10 @@ ghost use Prim.Native.Nat.{_+_, _-_, _*_, _<_, _≤_, min};
 ghost use lib.ListN.{getD, length};
 ghost use Rattle.timestamp.specs.Times.{belongs as isIn};
 ghost use Rattle.timestamp.specs.Belongs.{dashed, stepped, holds as inSpan};
-ghost use Rattle.timestamp.specs.Set.{setOf, none};
+ghost use Rattle.timestamp.specs.Set.{setOf, emptySet};
 ghost use Rattle.timestamp.specs.Parse.{parsed, pickOutcome, outcome};
-ghost use Rattle.timestamp.specs.Numbers.{Onward, Ended, isFirst};
+ghost use Rattle.timestamp.specs.Numbers.{NumberAt, Ended, isFirst};
 ghost use Rattle.timestamp.specs.RunAt.{RunAt};
-ghost use Rattle.timestamp.specs.Place.{IsSet};
-ghost use Rattle.timestamp.specs.Narrow.{NextStart, Bracket, Narrowed};
 ghost use Rattle.timestamp.specs.TakenText.{earliestOf, TakesText};
 ghost use Rattle.xml.specs.Bytes.{isDigit};
 
@@ -29,6 +27,12 @@ fn byte_at(text: &[u8], at: usize) -> u8
     ensures { λ r. ⌜ r ≡ getD (now (text .entry)) at 44 ⌝ }
 {
     if at < text.len() { text[at] } else { b',' }
+}
+
+fn is_digit(b: u8) -> bool
+    ensures { λ r. ⌜ r ≡ isDigit b ⌝ }
+{
+    if 48 <= b { b <= 57 } else { false }
 }
 
 // The digit that a byte stands for; 0 for a byte before `0`.
@@ -55,22 +59,31 @@ fn dash(k: usize) -> usize
 }
 
 impl Span {
+    // A byte of the run more. A number below 100 may take a digit with no look at the bound.
     fn step(self, b: u8) -> Self
         requires { ⌜ self .n ≤ 1000 ⌝ }
         ensures { λ r. ⌜ (r ≡ stepped self b) × (r .n ≤ 1000) ⌝ }
     {
+        if self.n < 100 {
+            if is_digit(b) {
+                return Span {
+                    dashes: self.dashes,
+                    lo: self.lo,
+                    n: 10 * self.n + digit(b),
+                };
+            }
+        }
         if b == b'-' {
-            Span {
+            return Span {
                 dashes: dash(self.dashes),
                 lo: self.n,
                 n: 0,
-            }
-        } else {
-            Span {
-                dashes: self.dashes,
-                lo: self.lo,
-                n: grow(self.n, b),
-            }
+            };
+        }
+        Span {
+            dashes: self.dashes,
+            lo: self.lo,
+            n: grow(self.n, b),
         }
     }
 
@@ -90,10 +103,32 @@ impl Span {
     }
 }
 
-fn is_digit(b: u8) -> bool
-    ensures { λ r. ⌜ r ≡ isDigit b ⌝ }
+// Whether v is in the set with this text: a turn of the outer loop for each run, and in it a turn of the inner loop for each byte of the run.
+pub fn belongs(text: &[u8], v: usize) -> bool
+    requires { ⌜ v < 1000 ⌝ }
+    ensures { λ r. ⌜ r ≡ isIn v (now (text .entry)) ⌝ }
 {
-    if 48 <= b { b <= 57 } else { false }
+    let mut at = 0;
+    loop {
+        let mut run = Span {
+            dashes: 0,
+            lo: 0,
+            n: 0,
+        };
+        let mut b = byte_at(text, at);
+        while b != b',' {
+            run = run.step(b);
+            at += 1;
+            b = byte_at(text, at);
+        }
+        if run.holds(v) {
+            break true;
+        }
+        if text.len() <= at {
+            break false;
+        }
+        at += 1;
+    }
 }
 
 // A number that a text has at a place, and the place after it; n is 0 where none is read there.
@@ -136,7 +171,7 @@ fn three_digits(a: u8, b: u8, c: u8) -> usize
 // The number at a place after which the text has two bytes at most.
 fn short_at(text: &[u8], at: usize) -> Number
     requires { ⌜ (at ≤ length (now text)) × (length (now text) < at + 3) ⌝ }
-    ensures { λ r. ⌜ Onward (now (text .entry)) at 0 (r .n) (r .to) × Ended (now (text .entry)) (r .n) (r .to) ⌝ }
+    ensures { λ r. ⌜ NumberAt (now (text .entry)) at (r .n) (r .to) × Ended (now (text .entry)) (r .n) (r .to) ⌝ }
 {
     if text.len() <= at {
         return Number { n: 0, to: at };
@@ -167,7 +202,7 @@ fn short_at(text: &[u8], at: usize) -> Number
 // The number at a place after which the text has three bytes or more, of which three digits at most are read.
 fn long_at(text: &[u8], at: usize) -> Number
     requires { ⌜ at + 3 ≤ length (now text) ⌝ }
-    ensures { λ r. ⌜ Onward (now (text .entry)) at 0 (r .n) (r .to) × Ended (now (text .entry)) (r .n) (r .to) ⌝ }
+    ensures { λ r. ⌜ NumberAt (now (text .entry)) at (r .n) (r .to) × Ended (now (text .entry)) (r .n) (r .to) ⌝ }
 {
     let a = text[at];
     if is_first(a) {
@@ -194,60 +229,14 @@ fn long_at(text: &[u8], at: usize) -> Number
 }
 
 // The number at a place.
-fn number_at(text: &[u8], at: usize) -> Number
+pub(crate) fn number_at(text: &[u8], at: usize) -> Number
     requires { ⌜ at ≤ length (now text) ⌝ }
-    ensures { λ r. ⌜ Onward (now (text .entry)) at 0 (r .n) (r .to) × Ended (now (text .entry)) (r .n) (r .to) ⌝ }
+    ensures { λ r. ⌜ NumberAt (now (text .entry)) at (r .n) (r .to) × Ended (now (text .entry)) (r .n) (r .to) ⌝ }
 {
     if text.len() - at < 3 {
         short_at(text, at)
     } else {
         long_at(text, at)
-    }
-}
-
-// The number at a place, where no digit of it is read before; else the number n so far.
-fn number_on(text: &[u8], at: usize, n: usize) -> Number
-    requires { ⌜ at ≤ length (now text) ⌝ }
-    ensures { λ r. ⌜ Onward (now (text .entry)) at n (r .n) (r .to) ⌝ }
-{
-    if n == 0 {
-        number_at(text, at)
-    } else {
-        Number { n: n, to: at }
-    }
-}
-
-// Whether v is in the set with this text: a turn of the loop for each run, in which its numbers and the bytes between them are read.
-pub fn belongs(text: &[u8], v: usize) -> bool
-    requires { ⌜ v < 1000 ⌝ }
-    ensures { λ r. ⌜ r ≡ isIn v (now (text .entry)) ⌝ }
-{
-    let mut at = 0;
-    loop {
-        let first = number_at(text, at);
-        let mut run = Span {
-            dashes: 0,
-            lo: 0,
-            n: first.n,
-        };
-        at = first.to;
-        while byte_at(text, at) != b',' {
-            let x = run.step(byte_at(text, at));
-            let y = number_on(text, at + 1, x.n);
-            run = Span {
-                dashes: x.dashes,
-                lo: x.lo,
-                n: y.n,
-            };
-            at = y.to;
-        }
-        if run.holds(v) {
-            break true;
-        }
-        if text.len() <= at {
-            break false;
-        }
-        at += 1;
     }
 }
 
@@ -344,7 +333,7 @@ pub fn run_at(text: &[u8], at: usize, p: usize) -> Run
 // Reads the set with this text into words that hold none; refused where it is the text of no set of numbers 1 to 999, or of the empty one.
 // A turn of the loop for each run.
 pub fn parse_into(words: &mut [u64; 16], text: &[u8]) -> bool
-    requires { ⌜ (length (now words) ≡ 16) × (setOf (now words) ≡ none) ⌝ }
+    requires { ⌜ (length (now words) ≡ 16) × (setOf (now words) ≡ emptySet) ⌝ }
     ensures { λ r. ⌜ (pickOutcome r (setOf (now (words .exit))) ≡ parsed (now (text .entry))) × (length (now (words .exit)) ≡ 16) ⌝ }
 {
     let mut p = 0;
@@ -417,70 +406,4 @@ pub fn take_text(left: &mut [u64; 16], text: &[u8]) -> usize
         }
         at += 1;
     }
-}
-
-// The place after the next comma from a place on, or the text's end.
-fn next_start(text: &[u8], at: usize) -> usize
-    requires { ⌜ at ≤ length (now text) ⌝ }
-    ensures { λ r. ⌜ NextStart (now (text .entry)) at r ⌝ }
-{
-    let mut i = at;
-    while i < text.len() {
-        if text[i] == b',' {
-            return i + 1;
-        }
-        i += 1;
-    }
-    i
-}
-
-// Two places of a text, between which a run is sought.
-pub struct Places {
-    pub lo: usize,
-    pub hi: usize,
-}
-
-// The half of the places where the last run is that begins at v or below it.
-fn halve(text: &[u8], lo: usize, hi: usize, v: usize) -> Places
-    requires { ⌜ Bracket (now text) v lo hi × (lo + 1 < hi) ⌝ }
-    ensures { λ r. ⌜ Bracket (now (text .entry)) v (r .lo) (r .hi) × (r .hi - r .lo < hi - lo) ⌝ }
-{
-    let mid = lo + (hi - lo) / 2;
-    let next = next_start(text, mid - 1);
-    if hi <= next {
-        return Places { lo: lo, hi: mid };
-    }
-    let first = number_at(text, next);
-    if first.n <= v {
-        return Places { lo: next, hi: hi };
-    }
-    Places { lo: lo, hi: mid }
-}
-
-// The place of the last run that begins at v or below it, or of the first run.
-pub fn narrow(text: &[u8], v: usize) -> usize
-    requires { ⌜ IsSet (now text) ⌝ }
-    ensures { λ r. ⌜ Narrowed (now (text .entry)) v r ⌝ }
-{
-    let mut lo = 0;
-    let mut hi = text.len();
-    while lo + 1 < hi {
-        let part = halve(text, lo, hi, v);
-        lo = part.lo;
-        hi = part.hi;
-    }
-    lo
-}
-
-// Whether v is in the set with this text, where it is the text of one: one run is read.
-pub fn holds(text: &[u8], v: usize) -> bool
-    requires { ⌜ IsSet (now text) ⌝ }
-    ensures { λ r. ⌜ r ≡ isIn v (now (text .entry)) ⌝ }
-{
-    let at = narrow(text, v);
-    let run = run_at(text, at, 0);
-    if v < run.lo {
-        return false;
-    }
-    v <= run.hi
 }

@@ -5,7 +5,6 @@ use crate::gap_in;
 use crate::next_in;
 use xml::writer::least;
 use xml::writer::put;
-ghost use mathlib.Core.Path.{_≡_};
 ghost use mathlib.Core.List.{[], _∷_};
 ghost use Prim.Native.Nat.{_+_, _-_, _^_, _<_, _≤_};
 ghost use Rattle.xml.specs.Over.{Wrote};

@@ -14,7 +14,7 @@ use Rattle.xml.specs.Tape.{headAt, nextAt, Tape, at-end, at-text, at-elem, at-s
 use Rattle.xml.specs.TapeLaws.{bytesAt, tape-le, tape-none, tape-join, front}
 use Rattle.xml.specs.Truth.{by-test, clash, not-so, and-left, and-right, or-first, or-second}
 use Rattle.keys.specs.Legal.{untimed}
-use Rattle.timestamp.specs.Set.{setOf, none, upTo, joined, sameSet, apart, subset, firstIn}
+use Rattle.timestamp.specs.Set.{setOf, emptySet, upTo, joined, sameSet, apart, subset, firstIn}
 use Rattle.timestamp.specs.Tests.{same-tells, apart-tells}
 use Rattle.timestamp.specs.Parse.{Outcome, refused, accepted, parsed, pickOutcome, outcome}
 use Rattle.timestamp.specs.declared.text.Parsed.{Parsed}
@@ -179,7 +179,7 @@ ends : (a b c d : Bool) → (a && b && c && d) ≡ true → (a ≡ true) × (d �
 ends a b c d e = (and-left a b (and-left (a && b) c (and-left (a && b && c) d e)), and-right (a && b && c) d e)
 
 module _ {src cells : List ℕ} {n : ℕ} {t : ℕ → Bool} where
-  pub way-start : {lo q : ℕ} {u : ℕ → Bool} {f : Forest} → Tape src cells lo q f → u ≡ none → Way src cells lo lo q n t u 0 0 (judged n t none 0 0 end f)
+  pub way-start : {lo q : ℕ} {u : ℕ → Bool} {f : Forest} → Tape src cells lo q f → u ≡ emptySet → Way src cells lo lo q n t u 0 0 (judged n t emptySet 0 0 end f)
   way-start {f = f} h e = record { done = end; rest = f; before = at-end refl; after = h; answer = rw e refl }
 
   pub way-few : {lo p q : ℕ} {u : ℕ → Bool} {m c : ℕ} {whole : Bool} → Way src cells lo p q n t u m c whole → q ≤ p → c < 2 → whole ≡ false

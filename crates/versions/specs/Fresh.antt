@@ -12,7 +12,7 @@ use Rattle.xml.specs.Truth.{clash, and-left, and-right, and-both, or-left, or-r
 use Rattle.model.specs.Stored.{orL}
 use Rattle.timestamp.specs.Times.{Times}
 use Rattle.timestamp.specs.TimesLaws.{or-by}
-use Rattle.timestamp.specs.Set.{none, joined, apart as apartSets, firstIn}
+use Rattle.timestamp.specs.Set.{emptySet, joined, apart as apartSets, firstIn}
 use Rattle.timestamp.specs.Tests.{apart-tells, apart-told}
 use Rattle.timestamp.specs.Listed.{listed, Only, only-none, only-joined}
 use Rattle.versions.specs.Walk.{timesIn, ever, disjoint, earlier, branchesIn, apart, contentsApart, together}
@@ -121,7 +121,7 @@ pub record Branch (n : ℕ) (d : Forest) (u : ℕ → Bool) (m : ℕ) (b : Bytes
 
 -- the contents d have the union u, and the last begins at m
 pub data Seen (n : ℕ) : Forest → (ℕ → Bool) → ℕ → Type 0 where
-  nothing : {u : ℕ → Bool} → u ≡ none → Seen n end u 0
+  nothing : {u : ℕ → Bool} → u ≡ emptySet → Seen n end u 0
   more : {d e : Forest} {u v : ℕ → Bool} {m l : ℕ} {b : Bytes} {k : Forest} {s : ℕ → Bool} → Seen n d u m → Branch n d u m b k s
       → e ≡ join d (stamp b k end) → v ≡ joined u s → l ≡ firstIn 1024 s 0 → Seen n e v l
 

@@ -11,7 +11,7 @@ use Rattle.xml.specs.BytesLaws.{same-is, same-self}
 use Rattle.xml.specs.Truth.{by-test, not-so, and-left, and-right, and-both}
 use Rattle.timestamp.specs.Times.{belongs, writeTimes}
 use Rattle.timestamp.specs.TimesLaws.{bool-eq, write-none}
-use Rattle.timestamp.specs.Set.{none, upTo, cutAt, subset}
+use Rattle.timestamp.specs.Set.{emptySet, upTo, cutAt, subset}
 use Rattle.timestamp.specs.Tests.{subset-tells, subset-told}
 use Rattle.timestamp.specs.Runs.{from-cong}
 use Rattle.timestamp.specs.Listed.{listed, textOf, Only, only-up-to, only-cut, only-more, listed-cong, listed-none, text-listed, text-inj}
@@ -34,7 +34,7 @@ subset-only n s o = subset-told s (upTo n) (λ v l q. let x = o v q in and-both 
 -- no text but the empty one is that of no version
 ever-text : (n : ℕ) (s : ℕ → Bool) → ever (listed n s) ≡ false → writeTimes (listed n s) ≡ []
 unfolding listed
-ever-text n s e = ap writeTimes (listed-cong n s none (λ v a b. ever-none s 1 n e v a (omega arith)) ∙ listed-none n) ∙ write-none n
+ever-text n s e = ap writeTimes (listed-cong n s emptySet (λ v a b. ever-none s 1 n e v a (omega arith)) ∙ listed-none n) ∙ write-none n
 
 module _ (n : ℕ) (l : Bytes) (h : n ≤ 999) where
   test : Bool

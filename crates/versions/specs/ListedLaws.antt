@@ -12,7 +12,7 @@ use Rattle.xml.specs.Truth.{clash, by-test, not-so, and-left, and-right, and-bo
 use Rattle.model.specs.Stored.{orL}
 use Rattle.timestamp.specs.Times.{upFrom, belongs}
 use Rattle.timestamp.specs.TimesLaws.{bool-eq, or-by, same-or}
-use Rattle.timestamp.specs.Set.{none, cutAt, joined, shared, isNone, apart, subset, firstIn}
+use Rattle.timestamp.specs.Set.{emptySet, cutAt, joined, shared, isNone, apart, subset, firstIn}
 use Rattle.timestamp.specs.Tests.{same-tells, same-told, subset-tells, subset-told}
 use Rattle.timestamp.specs.First.{first-low, first-high, first-is, first-before, first-member}
 use Rattle.timestamp.specs.Runs.{from-cong}
@@ -47,8 +47,8 @@ pub ever-listed : (n : ℕ) (s : ℕ → Bool) → Only n s → n < 1024 → eve
 unfolding listed
 ever-listed n s o h = by-test (ever (map s (upFrom 1 n)))
     (λ e. let r = ever-some s 1 n e in
-    e ∙ sym (ap not (not-so (isNone s) (λ t. clash (sym (r .3) ∙ same-tells s none t (r .0) (omega (arith, r .2)))))))
-    (λ e. e ∙ sym (ap not (same-told s none (λ v l. not-so (s v) (λ q. let x = o v q in clash (sym q ∙ ever-none s 1 n e v (x .0) (omega (arith, x .1))))))))
+    e ∙ sym (ap not (not-so (isNone s) (λ t. clash (sym (r .3) ∙ same-tells s emptySet t (r .0) (omega (arith, r .2)))))))
+    (λ e. e ∙ sym (ap not (same-told s emptySet (λ v l. not-so (s v) (λ q. let x = o v q in clash (sym q ∙ ever-none s 1 n e v (x .0) (omega (arith, x .1))))))))
 
 -- ---- inclusion
 within-tells : (s t : ℕ → Bool) (i n : ℕ) → within (map s (upFrom i n)) (map t (upFrom i n)) ≡ true → (v : ℕ) → i ≤ v → v < i + n → s v ≡ true → t v ≡ true
@@ -99,8 +99,8 @@ pub disjoint-listed : (n : ℕ) (s t : ℕ → Bool) → Only n s → n < 1024 �
 unfolding listed
 disjoint-listed n s t o h =
     bool-eq (disjoint (map s (upFrom 1 n)) (map t (upFrom 1 n))) (apart s t)
-    (λ e. same-told (shared s t) none (λ v l. not-so (s v && t v) (λ q. let x = o v (and-left (s v) (t v) q) in clash (sym q ∙ disjoint-tells s t 1 n e v (x .0) (omega (arith, x .1))))))
-    (λ e. disjoint-told s t 1 n (λ v l u. same-tells (shared s t) none e v (omega arith)))
+    (λ e. same-told (shared s t) emptySet (λ v l. not-so (s v && t v) (λ q. let x = o v (and-left (s v) (t v) q) in clash (sym q ∙ disjoint-tells s t 1 n e v (x .0) (omega (arith, x .1))))))
+    (λ e. disjoint-told s t 1 n (λ v l u. same-tells (shared s t) emptySet e v (omega arith)))
 
 -- ---- which begins earlier
 module _ (s t : ℕ → Bool) where

@@ -15,7 +15,7 @@ use Rattle.xml.specs.TapeLaws.{bytesAt, tape-le, tape-none, front}
 use Rattle.xml.specs.Truth.{by-test, clash, not-so, and-left, and-right, and-both}
 use Rattle.keys.specs.Legal.{untimed}
 use Rattle.timestamp.specs.Times.{Times, sameTimes}
-use Rattle.timestamp.specs.Set.{none, upTo, joined, sameSet, apart, subset, firstIn}
+use Rattle.timestamp.specs.Set.{emptySet, upTo, joined, sameSet, apart, subset, firstIn}
 use Rattle.timestamp.specs.First.{first-member}
 use Rattle.timestamp.specs.Tests.{subset-tells}
 use Rattle.timestamp.specs.Listed.{listed, Only, only-up-to, same-listed}
@@ -165,8 +165,8 @@ module _ {src cells : List ℕ} (n : ℕ) (t : Times) where
 
   -- contents in their `T`s
   pub front-timed : {lo hi : ℕ} {f : Forest} (w : ℕ → Bool) → n ≤ 999 → Only n w → listed n w ≡ t → Tape src cells lo hi f → lo < hi → headAt cells lo % 4 ≡ 2
-      → judged n w none 0 0 end f ≡ frontLegal n t f
+      → judged n w emptySet 0 0 end f ≡ frontLegal n t f
   unfolding frontLegal asked join branchesIn
   front-timed {lo} w small o is x l k =
       let g = first x l in
-      rw (g .timed k) (judged-is n small w t o is (stamp (bytesAt src cells lo) (g .kids) (g .rest)) end none 0 0 (nothing refl) refl)
+      rw (g .timed k) (judged-is n small w t o is (stamp (bytesAt src cells lo) (g .kids) (g .rest)) end emptySet 0 0 (nothing refl) refl)

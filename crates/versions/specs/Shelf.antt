@@ -1,16 +1,16 @@
 -- "The versions standing": the shelf, the archive that the calls hand on, and demand 3 as one statement.
-use Prim.Native.Nat.{ℕ, zero, suc, _+_, _-_, _≤_, _<_}
-use mathlib.Core.Path.{_≡_, refl}
-use mathlib.Core.Logic.{_↔_}
-use mathlib.Core.Bool.{Bool, true, false}
+use Prim.Native.Nat.{ℕ}
+use mathlib.Core.Path.{_≡_}
+use mathlib.Core.Bool.{true, false}
 use mathlib.Core.List.{List, [], _∷_, _++_, map}
 use lib.Dec.{eqb}
-use lib.ListN.{length, take}
+use lib.ListN.{take}
 use Rattle.xml.specs.Bytes.{Bytes}
-use Rattle.keys.specs.Result.{Result, refused, ok, _>>=_, _>>_}
-use Rattle.xml.specs.Forest.{Forest, end, write}
-use Rattle.keys.specs.KeyList.{KeyList, keyList}
+use Rattle.keys.specs.Result.{refused, ok}
+use Rattle.xml.specs.Forest.{Forest, write}
+use Rattle.keys.specs.KeyList.{KeyList}
 use Rattle.keys.specs.Version.{Label, version}
+use Rattle.keys.specs.Alike.{AnyOrder, EachInAnyOrder}
 use Rattle.keys.specs.Address.{address, holds}
 use Rattle.timestamp.specs.Times.{writeTimes}
 use Rattle.versions.specs.Archive.{archiveOf}
@@ -60,12 +60,15 @@ module _ (keys : Bytes) where
   shelfAfter K shelf (c ∷ cs) =
       elim (eqb (call (archiveOfShelf K shelf) c .number) 0) [ true ↦ shelfAfter K (shelved c shelf) cs | false ↦ shelfAfter K shelf cs ]
 
-  -- a list of calls: the founding and what comes after it. Its last result and its shelf.
+  -- a list of calls: the founding and what comes after it. Its last result, the texts on its shelf, and the versions standing.
   unfoldable pub result : Founding → List Call → Bytes
   result f cs = lastArchive (found keys (f .text) (f .out) (f .work) .bytes) cs
 
+  unfoldable pub shelfTexts : KeyList → Founding → List Call → List Bytes
+  shelfTexts K f cs = shelfAfter K (f .text ∷ []) cs
+
   unfoldable pub standing : KeyList → Founding → List Call → List Forest
-  standing K f cs = versionsOf K (shelfAfter K (f .text ∷ []) cs)
+  standing K f cs = versionsOf K (shelfTexts K f cs)
 
   -- ---- demand 3
   -- of one list, under the key list K
@@ -79,10 +82,13 @@ module _ (keys : Bytes) where
     pub history-kept : (place : Bytes) (out work : ℕ) → history keys (result f cs) place out work .number ≡ 0
         → (ls : List Label) × (address K place ≡ ok ls) × (history keys (result f cs) place out work .bytes ≡ writeTimes (map (holds K [] ls) (standing K f cs)))
 
-  -- "If the shelves of two lists under the same key list have as many versions, and the same ones number by number"; "Two versions are the same
-  -- here if their written forms are equal."
+  -- texts of "as many versions, and the same ones number by number"; "Two versions are the same here if their written forms are equal."
+  abbrev pub SameVersions : KeyList → List Bytes → List Bytes → Type 0
+  SameVersions K ss ts = map write (versionsOf K ss) ≡ map write (versionsOf K ts)
+
+  -- "If the shelves of two lists under the same key list have as many versions, and the same ones number by number"
   abbrev pub SameShelf : KeyList → Founding → List Call → Founding → List Call → Type 0
-  SameShelf K f cs g ds = map write (standing K f cs) ≡ map write (standing K g ds)
+  SameShelf K f cs g ds = SameVersions K (shelfTexts K f cs) (shelfTexts K g ds)
 
   -- of two lists
   pub record Agree (f : Founding) (cs : List Call) (g : Founding) (ds : List Call) : Type 0 where
@@ -95,12 +101,35 @@ module _ (keys : Bytes) where
   abbrev pub Founded : Founding → Type 0
   Founded f = found keys (f .text) (f .out) (f .work) .number ≡ 0
 
+  -- "no call .. is refused": each returns 0, lent the result of the one before
+  unfoldable pub Unrefused : Bytes → List Call → Type 0
+  Unrefused archive [] = Unit {0}
+  Unrefused archive (c ∷ cs) = (call archive c .number ≡ 0) × Unrefused (call archive c .bytes) cs
+
+  abbrev pub NoneRefused : Founding → List Call → Type 0
+  NoneRefused f cs = Founded f × Unrefused (found keys (f .text) (f .out) (f .work) .bytes) cs
+
+-- "archives versions": the calls are adds of these texts, one after the other
+pub data Adds : List Bytes → List Call → Type 0 where
+  no-more : Adds [] []
+  and-more : {s : Bytes} {ss : List Bytes} {cs : List Call} {out work : ℕ} → Adds ss cs → Adds (s ∷ ss) (adding s out work ∷ cs)
+
 -- Demand 3: "a single claim about the list of calls, and not one for each call"
-pub record VersionsStanding : Type 0 where
-  pub each-list : (keys : Bytes) (K : KeyList) → keyList keys ≡ ok K → (f : Founding) (cs : List Call) → Founded keys f → Kept keys K f cs
-  pub two-lists : (keys : Bytes) (K : KeyList) → keyList keys ≡ ok K → (f g : Founding) (cs ds : List Call) → Founded keys f → Founded keys g
-      → SameShelf keys K f cs g ds → Agree keys f cs g ds
+pub record VersionsStanding (keys : Bytes) (K : KeyList) : Type 0 where
+  pub each-list : (f : Founding) (cs : List Call) → Founded keys f → Kept keys K f cs
+  pub two-lists : (f g : Founding) (cs ds : List Call) → Founded keys f → Founded keys g → SameShelf keys K f cs g ds → Agree keys f cs g ds
+  -- "each with its keyed siblings in any order": such a text is received as the same version, or refused under the same number
+  pub any-order : (s t : Bytes) → AnyOrder K s t → version K s ≡ version K t
+  -- so texts of which this holds number by number are of the same versions, and lists with such shelves agree
+  pub same-orders : (ss ts : List Bytes) → EachInAnyOrder K ss ts → SameVersions keys K ss ts
+  pub two-orders : (f g : Founding) (cs ds : List Call) → Founded keys f → Founded keys g → EachInAnyOrder K (shelfTexts keys K f cs) (shelfTexts keys K g ds)
+      → Agree keys f cs g ds
+  -- "if no call in either is refused, a run that archives versions 1 to n and then steps back to i shares them with one that archives only
+  -- the first i"
+  pub stepped-back : (f g : Founding) (ss ts : List Bytes) (cs ds : List Call) (i out work : ℕ) → Adds ss cs → Adds ts ds
+      → NoneRefused keys f (cs ++ backTo i out work ∷ []) → NoneRefused keys g ds → SameVersions keys K (take i (f .text ∷ ss)) (g .text ∷ ts)
+      → Agree keys f (cs ++ backTo i out work ∷ []) g ds
 
 unfoldable pub shelf-compute : Unit {0}
-unfolding calls-compute call lastArchive versionsOf archiveOfShelf shelved shelfAfter result standing
+unfolding calls-compute call lastArchive versionsOf archiveOfShelf shelved shelfAfter result shelfTexts standing
 shelf-compute = tt

@@ -14,7 +14,7 @@ use Rattle.xml.specs.OverLaws.{wrote-then}
 use Rattle.xml.specs.TapeLaws.{opening, slice-part}
 use Rattle.xml.specs.Truth.{clash}
 use Rattle.timestamp.specs.Times.{Times, always, onlyAfter, writeTimes}
-use Rattle.timestamp.specs.Set.{setOf, none, adding, upTo, subset}
+use Rattle.timestamp.specs.Set.{setOf, emptySet, adding, upTo, subset}
 use Rattle.timestamp.specs.Tests.{subset-tells}
 use Rattle.timestamp.specs.Listed.{listed, Only, textOf, listed-adding, listed-newest, listed-up-to, only-adding, only-none, only-up-to, text-listed, text-up-to}
 use Rattle.timestamp.specs.Short.{text-short}
@@ -59,9 +59,9 @@ module _ {n : ℕ} {src : Bytes} {a e : ℕ} {t : Times} (x : Says n src a e t) 
   pub says-set : IsSetTo n (slice a e src)
   says-set = record { s = x .set; is = x .is; only = x .only }
 
-pub newest-text : (n : ℕ) (s : ℕ → Bool) → n ≤ 998 → s ≡ adding (n + 1) none → textOf s ≡ writeTimes (onlyAfter n)
+pub newest-text : (n : ℕ) (s : ℕ → Bool) → n ≤ 998 → s ≡ adding (n + 1) emptySet → textOf s ≡ writeTimes (onlyAfter n)
 newest-text n s h e =
-    ap textOf (e ∙ ap (λ i. adding i none) (add-one n)) ∙ text-listed (suc n) (adding (suc n) none) (omega arith) (only-adding n none (only-none n)) ∙ ap writeTimes (listed-newest n)
+    ap textOf (e ∙ ap (λ i. adding i emptySet) (add-one n)) ∙ text-listed (suc n) (adding (suc n) emptySet) (omega arith) (only-adding n emptySet (only-none n)) ∙ ap writeTimes (listed-newest n)
 
 -- a part of a text, as it is lent
 pub part-slice : (a e : ℕ) (l : Bytes) → a ≤ e → take (e - a) (drop a l) ≡ slice a e l
@@ -79,7 +79,7 @@ module _ {out mid far left : List ℕ} {at a b r : ℕ} where
   unfolding opening bytes write
   wrote-timed s f x y z = rw append-nil (wrote-then (wrote-then x y) z)
 
-pub wrote-newest : {out left : List ℕ} {at r : ℕ} (n : ℕ) (s : ℕ → Bool) (f : Forest) → n ≤ 998 → s ≡ adding (n + 1) none → Wrote out at (write (stamp (textOf s) f end)) r left
+pub wrote-newest : {out left : List ℕ} {at r : ℕ} (n : ℕ) (s : ℕ → Bool) (f : Forest) → n ≤ 998 → s ≡ adding (n + 1) emptySet → Wrote out at (write (stamp (textOf s) f end)) r left
     → Wrote out at (write (newest n f end)) r left
 unfolding newest
 wrote-newest n s f h e x = rw (newest-text n s h e) at x

@@ -16,7 +16,7 @@ use Rattle.xml.specs.Tape.{headAt, nextAt, Tape}
 use Rattle.xml.specs.TapeLaws.{bytesAt, opening, closing}
 use Rattle.timestamp.specs.Times.{Times, always}
 use Rattle.timestamp.specs.TimesLaws.{bool-eq}
-use Rattle.timestamp.specs.Set.{none, upTo, cutAt, sameSet, isNone}
+use Rattle.timestamp.specs.Set.{emptySet, upTo, cutAt, sameSet, isNone}
 use Rattle.timestamp.specs.Tests.{same-tells, same-told}
 use Rattle.timestamp.specs.Listed.{listed, textOf, Only, only-cut, only-more, only-up-to, listed-inj, listed-cong, listed-up-to, text-inj, text-none}
 use Rattle.timestamp.specs.Parses.{text-parse, text-some}
@@ -122,11 +122,11 @@ module _ {i : ℕ} {src : List ℕ} {a to tail : ℕ} (small : i ≤ 999) (one :
 
   -- nothing, or not
   empty-none : to + tail ≡ 0 → isNone (x .set) ≡ true
-  empty-none e = same-told (x .set) none (λ v l. not-so (x .set v) (λ t. text-some (x .set) (only-more i 999 (x .set) small (x .only)) v t (x .text-is ∙ cut-empty src a to tail i e)))
+  empty-none e = same-told (x .set) emptySet (λ v l. not-so (x .set v) (λ t. text-some (x .set) (only-more i 999 (x .set) small (x .only)) v t (x .text-is ∙ cut-empty src a to tail i e)))
 
   some-not : (to + tail ≡ 0 → ⊥) → isNone (x .set) ≡ false
   some-not ne = not-so (isNone (x .set)) (λ e.
-      let z = listed-inj i (x .set) none (x .only) (λ v t. clash (sym t)) (listed-cong i (x .set) none (λ v b d. same-tells (x .set) none e v (omega arith))) in
+      let z = listed-inj i (x .set) emptySet (x .only) (λ v t. clash (sym t)) (listed-cong i (x .set) emptySet (λ v b d. same-tells (x .set) emptySet e v (omega arith))) in
       let y : length (cutText src a to tail i) ≡ 0 = ap length (sym (x .text-is) ∙ ap textOf z ∙ text-none) in
       ne (omega (arith, length-cut x, y, tail-length tail i one small .1 (omega (arith, length-cut x, y)))))
 

@@ -6,6 +6,7 @@ use timestamp::change::cut_at;
 use timestamp::write::put_tail;
 use xml::tape::is_run;
 use xml::tape::view_at;
+use xml::writer::least;
 use xml::writer::put_close;
 use xml::writer::put_open;
 use xml::writer::put_text;
@@ -79,7 +80,7 @@ fn back_inside(
     write_back(src, tape, lo, hi, i, a, around, out, at)
 }
 
-// Writes node p, which stands in an element of the versions `around`.
+// Writes node p, which stands in an element of the versions `around`, from the start of `out`.
 fn back_node(
     src: &[u8],
     tape: &[u32],
@@ -88,36 +89,36 @@ fn back_node(
     a: usize,
     around: Change,
     out: &mut [u8],
-    at: usize,
 ) -> usize
-    requires { ⌜ (p < nextAt (now tape) p) × Timely i (now src) (now tape) p (nextAt (now tape) p) × (1 ≤ i) × Trimmed i (now src) a (around .to) (around .tail) × (at + 163840 * (nextAt (now tape) p - p) < 2 ^ 60) ⌝ }
+    requires { ⌜ (p < nextAt (now tape) p) × Timely i (now src) (now tape) p (nextAt (now tape) p) × (1 ≤ i) × Trimmed i (now src) a (around .to) (around .tail) × (163840 * (nextAt (now tape) p - p) < 2 ^ 60) ⌝ }
     ensures { λ r. ⌜ Renders (backText i (timesIn i (cutText (now (src .entry)) a (around .to) (around .tail) i))) (now (src .entry)) (now (tape .entry)) p (nextAt (now (tape .entry)) p)
-        (now (out .entry)) at r (now (out .exit)) ⌝ }
+        (now (out .entry)) 0 r (now (out .exit)) ⌝ }
 {
     let v = view_at(tape, p);
     let start = v.start;
     let end = v.end;
     if v.kind == 0 {
-        return put_text(src, start, end, out, at);
+        return put_text(src, start, end, out, 0);
     }
     if v.kind == 1 {
-        let inside = put_open(true, src, start, end, out, at);
+        let inside = put_open(true, src, start, end, out, 0);
         let close = back_inside(src, tape, p + 1, v.next, i, a, around, out, inside);
         return put_close(true, src, start, end, out, close);
     }
     let cut = cut_at(&src[start..end], i);
     if cut.to + cut.tail == 0 {
-        return at;
+        return 0;
     }
     if same_cut(src, a, around, start, cut, i) {
-        return back_inside(src, tape, p + 1, v.next, i, start, cut, out, at);
+        return back_inside(src, tape, p + 1, v.next, i, start, cut, out, 0);
     }
-    let inside = put_changed(cut, src, start, i, out, at);
+    let inside = put_changed(cut, src, start, i, out, 0);
     let close = back_inside(src, tape, p + 1, v.next, i, start, cut, out, inside);
     put_close(false, src, start, end, out, close)
 }
 
-// Writes the nodes lo to hi, which stand in an element of the versions `around`.
+// Writes the nodes lo to hi, which stand in an element of the versions `around`. The writer of each node is lent the output's part from the
+// current place.
 pub fn write_back(
     src: &[u8],
     tape: &[u32],
@@ -136,7 +137,8 @@ pub fn write_back(
     let mut p = lo;
     let mut to = at;
     while p < hi {
-        to = back_node(src, tape, p, i, a, around, out, to);
+        let from = least(to, out.len());
+        to += back_node(src, tape, p, i, a, around, &mut out[from..]);
         let v = view_at(tape, p);
         p = v.next;
     }

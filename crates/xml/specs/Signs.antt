@@ -15,10 +15,11 @@ use Rattle.xml.specs.declared.text.Sign.{Sign}
 abbrev pub spelt : Bytes → Bytes
 spelt raw = escape (unescape 0 raw)
 
--- a byte that is no entity's first and is written as none
+-- a byte that begins an entity or is written as one; any other is written as it stands
 unfoldable pub isMarked : ℕ → Bool
 isMarked b = eqb b (code "&") || eqb b (code "<") || eqb b (code ">")
 
+-- how many bytes at the start are written as they stand
 unfoldable pub plainLen : Bytes → ℕ
 plainLen [] = 0
 plainLen (b ∷ s) = elim (isMarked b) [ true ↦ 0 | false ↦ suc (plainLen s) ]

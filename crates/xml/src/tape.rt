@@ -1,7 +1,7 @@
-// The nodes of the tape: the one way to read a node's two cells.
+// The nodes of the tape: the one way to read a node's two cells; and cells that are cleared.
 ghost use mathlib.Core.Path.{_≡_};
 ghost use Prim.Native.Nat.{_+_, _*_, _<_, _≤_};
-ghost use lib.ListN.{length};
+ghost use lib.ListN.{length, replicate};
 ghost use Rattle.xml.specs.Views.{viewAt, isRun};
 
 // The bytes start to end of the text name the node; kind 0 is a run of text, 1 an element, 2 an archive's `T`; next is the first node
@@ -36,4 +36,15 @@ pub fn is_run(tape: &[u32], lo: usize, hi: usize) -> bool
         return false;
     }
     view_at(tape, lo).kind == 0
+}
+
+// Makes all cells zero.
+pub fn clear(cells: &mut [u32])
+    ensures { λ r. ⌜ now (cells .exit) ≡ replicate (length (now (cells .entry))) 0 ⌝ }
+{
+    let mut i = 0;
+    while i < cells.len() {
+        cells[i] = 0;
+        i += 1;
+    }
 }

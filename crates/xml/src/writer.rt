@@ -5,7 +5,6 @@ use crate::tape::view_at;
 use crate::text::plain_end;
 use crate::text::sign_at;
 ghost use mathlib.Core.Path.{_≡_};
-ghost use mathlib.Core.Bool.{true};
 ghost use mathlib.Core.List.{[], _∷_};
 ghost use Prim.Native.Nat.{ℕ, _+_, _-_, _%_, _^_, _<_, _≤_, min};
 ghost use lib.ListN.{length};
@@ -15,7 +14,6 @@ ghost use Rattle.xml.specs.Forest.{Forest, escape, write as written};
 ghost use Rattle.xml.specs.Signs.{spelt};
 ghost use Rattle.xml.specs.Tape.{headAt, nextAt, Tape, Valid, Writes};
 ghost use Rattle.xml.specs.TapeLaws.{opening, closing};
-ghost use Rattle.xml.specs.Views.{isRun};
 ghost use Rattle.xml.specs.WriteLaws.{Fit};
 
 // The lesser of two numbers.
@@ -134,30 +132,24 @@ pub fn put_close(element: bool, src: &[u8], a: usize, e: usize, out: &mut [u8], 
     put_word(b"</T>", out, at)
 }
 
-// Writes a leaf: an element, or an archive's `T`, that holds one run of text and nothing else.
-fn write_leaf(src: &[u8], tape: &[u32], p: usize, out: &mut [u8], at: usize) -> usize
-    requires { ⌜ (p < nextAt (now tape) p) × (headAt (now tape) p % 4 ≡ 0 → ⊥) × (isRun (now tape) (p + 1) (nextAt (now tape) p) ≡ true) × Fit (now src) (now tape) p (nextAt (now tape) p) at ⌝ }
-    ensures { λ r. ⌜ Writes (now (src .entry)) (now (tape .entry)) p (nextAt (now (tape .entry)) p) (now (out .entry)) at r (now (out .exit)) ⌝ }
-{
-    let v = view_at(tape, p);
-    let w = view_at(tape, p + 1);
-    let inside = put_open(v.kind == 1, src, v.start, v.end, out, at);
-    let after = put_text(src, w.start, w.end, out, inside);
-    put_close(v.kind == 1, src, v.start, v.end, out, after)
-}
-
-// Writes the element p of the tape, or an archive's `T`, with what it holds, from the start of `out`.
+// Writes the element p of the tape, or an archive's `T`, with what it holds, from the start of `out`. One run of text alone is written
+// without a call for the content.
 fn write_element(src: &[u8], tape: &[u32], p: usize, out: &mut [u8]) -> usize
     requires { ⌜ (p < nextAt (now tape) p) × (headAt (now tape) p % 4 ≡ 0 → ⊥) × Fit (now src) (now tape) p (nextAt (now tape) p) 0 ⌝ }
     ensures { λ r. ⌜ Writes (now (src .entry)) (now (tape .entry)) p (nextAt (now (tape .entry)) p) (now (out .entry)) 0 r (now (out .exit)) ⌝ }
 {
     let v = view_at(tape, p);
     let inside = put_open(v.kind == 1, src, v.start, v.end, out, 0);
+    if is_run(tape, p + 1, v.next) {
+        let w = view_at(tape, p + 1);
+        let after = put_text(src, w.start, w.end, out, inside);
+        return put_close(v.kind == 1, src, v.start, v.end, out, after);
+    }
     let close = write_content(src, tape, p + 1, v.next, out, inside);
     put_close(v.kind == 1, src, v.start, v.end, out, close)
 }
 
-// Writes the nodes lo to hi of the tape. An element that is no leaf is lent the output's part from the current place.
+// Writes the nodes lo to hi of the tape. The writer of each element, or `T`, is lent the output's part from the current place.
 fn write_content(src: &[u8], tape: &[u32], lo: usize, hi: usize, out: &mut [u8], at: usize) -> usize
     requires { ⌜ Fit (now src) (now tape) lo hi at ⌝ }
     ensures { λ r. ⌜ Writes (now (src .entry)) (now (tape .entry)) lo hi (now (out .entry)) at r (now (out .exit)) ⌝ }
@@ -168,8 +160,6 @@ fn write_content(src: &[u8], tape: &[u32], lo: usize, hi: usize, out: &mut [u8],
         let v = view_at(tape, p);
         if v.kind == 0 {
             to = put_text(src, v.start, v.end, out, to);
-        } else if is_run(tape, p + 1, v.next) {
-            to = write_leaf(src, tape, p, out, to);
         } else {
             let from = least(to, out.len());
             to += write_element(src, tape, p, &mut out[from..]);

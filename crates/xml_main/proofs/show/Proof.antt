@@ -47,14 +47,14 @@ mark-requires c κs = search needs
 array-share-prefix-out : tie.Need-array-share-prefix-out
 array-share-prefix-out c =
     within _ (c .before .before .before .before .before .before .before .before .before .before .before .before .before .args .room) (c .before .before .before .before .before .before .before .before .before .before .bytes-256 .result) (c .before .before .before .before .before .before .before .canonical .last .1 .1 .0) (omega (arith, c .before .before .before .before .before .before .before .before .before .before .bytes-256 .ensures))
-    (done-fits (c .before .before .before .before .before .before .before .before .before .before .before .before .before .args .text .now) _ _ _ (sym (c .before .before .before .n .given .1) ∙ c .before .before .before .before .before .before .before .canonical .ensures .0)) (c .before .before .before .before .before .before .before .canonical .kept .1 .1 .0)
+    (done-fits (c .before .before .before .before .before .before .before .before .before .before .before .before .before .args .text .now) _ _ _ _ (c .before .before .before .n .given .1) (c .before .before .before .before .before .before .before .canonical .ensures .0)) (c .before .before .before .before .before .before .before .canonical .kept .1 .1 .0)
 
 slice-aggregate-say : tie.Need-slice-aggregate-say
 slice-aggregate-say c =
     sym
     (length-take-le _ _
     (within _ (c .before .before .before .before .before .before .before .before .before .before .before .before .before .before .args .room) (c .before .before .before .before .before .before .before .before .before .before .before .bytes-256 .result) (c .before .before .before .before .before .before .before .before .canonical .last .1 .1 .0) (omega (arith, c .before .before .before .before .before .before .before .before .before .before .before .bytes-256 .ensures))
-    (done-fits (c .before .before .before .before .before .before .before .before .before .before .before .before .before .before .args .text .now) _ _ _ (sym (c .before .before .before .before .n .given .1) ∙ c .before .before .before .before .before .before .before .before .canonical .ensures .0)) (c .before .before .before .before .before .before .before .before .canonical .kept .1 .1 .0)))
+    (done-fits (c .before .before .before .before .before .before .before .before .before .before .before .before .before .before .args .text .now) _ _ _ _ (c .before .before .before .before .n .given .1) (c .before .before .before .before .before .before .before .before .canonical .ensures .0)) (c .before .before .before .before .before .before .before .before .canonical .kept .1 .1 .0)))
 
 say-requires : tie.Need-say-requires
 say-requires c κs = search needs

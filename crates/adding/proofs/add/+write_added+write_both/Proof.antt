@@ -1,15 +1,16 @@
--- `write_added` and `write_both` meet their contracts: of the siblings before nodes p and q all is written, and what is left to add is
--- what they add to.
+-- `write_added` and `write_both` meet their contracts: of the siblings before nodes p and q all is written, each into the part of the output
+-- that it was lent, and what is left to add is what they add to.
 use native.Mathlib.Omega.{arith}
 use mathlib.Core.Path.{_≡_, refl, sym, _∙_, ap}
 use mathlib.Core.Bool.{true}
 use mathlib.Core.Option.{Option}
 use lib.ListN.{length}
 use borrow.Author.Needs.{needs}
+use borrow.Rule.Slice.PartMut.{putMid}
 use borrow.Author.Tests.{not-true, not-false}
 use Rattle.xml.specs.Bytes.{Bytes}
 use Rattle.xml.specs.Forest.{Forest}
-use Rattle.xml.specs.OverLaws.{length-at}
+use Rattle.xml.specs.OverLaws.{length-at, lent-back}
 use Rattle.xml.specs.Tape.{nextAt}
 use Rattle.xml.specs.TapeLaws.{front, tape-le}
 use Rattle.keys.specs.KeyList.{Path, KeyList, above}
@@ -18,7 +19,7 @@ use Rattle.keys.specs.Table.{placeOf, Table}
 use Rattle.timestamp.specs.Times.{Times}
 use Rattle.versions.specs.Walk.{firstLabel, addIn}
 use Rattle.versions.specs.AddParts.{sibling, setIn, bothPart, inside, placeIn, At}
-use Rattle.adding.specs.Growth.{Grew}
+use Rattle.adding.specs.Growth.{Grew, grew-lent}
 use Rattle.versions.specs.TimedLaws.{says-set}
 use Rattle.versions.specs.AddWalk.{Held, Both, at-front, at-forward, at-place}
 use Rattle.adding.specs.AddWay.{Way, way-none, way-old, way-new, way-both, way-done, nextOf, otherOf, orderAt, order-at, order-same, there, both-of, both-grew, inside-above, inside-front, room-more, room-inner, room-outer, inner-held, opening-short, closing-short}
@@ -43,6 +44,7 @@ use Rattle.adding.proofs.sibling.write_old.Reads as write-old-reads
 use Rattle.walks.proofs.timed.put_newest.Reads as put-newest-reads
 use Rattle.keys.proofs.places.is_above.Reads as is-above-reads
 use Rattle.xml.proofs.tape.view_at.Reads as view-at-reads
+use Rattle.xml.proofs.writer.least.Reads as least-reads
 use Rattle.xml.proofs.writer.put_close.Reads as put-close-reads
 use Rattle.xml.proofs.writer.put_open.Reads as put-open-reads
 use Rattle.adding.proofs.add.+write_added+write_both.{statement}
@@ -67,7 +69,7 @@ abbrev write-both-below : ℕ → In 7 write-both-kinds.ps
 write-both-below t = and 7 write-both-kinds.ps (falls 7 write-both-kinds.ps _<_ μ-write-both t) write-both.Pre
 
 abbrev write-added-calls : ℕ → write-added-lts.Claims
-write-added-calls t = (is-above-reads.Asked, is-above-reads.Learnt, write-contents-reads.Asked, write-contents-reads.Learnt, own-place-reads.Asked, own-place-reads.Learnt, order-of-reads.Asked, order-of-reads.Learnt, view-at-reads.Asked, view-at-reads.Learnt, put-newest-reads.Asked, put-newest-reads.Learnt, write-old-reads.Asked, write-old-reads.Learnt, write-both-below t, write-both.Post, write-new-reads.Asked, write-new-reads.Learnt)
+write-added-calls t = (is-above-reads.Asked, is-above-reads.Learnt, write-contents-reads.Asked, write-contents-reads.Learnt, own-place-reads.Asked, own-place-reads.Learnt, order-of-reads.Asked, order-of-reads.Learnt, least-reads.Asked, least-reads.Learnt, view-at-reads.Asked, view-at-reads.Learnt, put-newest-reads.Asked, put-newest-reads.Learnt, write-old-reads.Asked, write-old-reads.Learnt, write-both-below t, write-both.Post, write-new-reads.Asked, write-new-reads.Learnt)
 
 abbrev write-added-Inv-loop : write-added-lts.InvT-loop
 write-added-Inv-loop text table paths place src tape lo hi vsrc vtape vlo vhi n around out₀ at p₀ q₀ to₀ fresh₀ out p q to fresh = (lo ≤ p) × (vlo ≤ q) × (to + 262144 * (hi - p + (vhi - q)) ≤ at + 262144 * (hi - lo + (vhi - vlo))) × (fresh + (vhi - q) ≤ vhi - vlo) × (length out ≡ length out₀) × ((K : KeyList) (w : Path) (u : Times) (f v : Forest) → Held text table paths place src tape lo hi vsrc vtape vlo vhi n (around .start) (around .end) K w u f v → above K w ≡ true → Way src tape p hi vsrc vtape q vhi n K w u (addIn K n w u f v) f out₀ at to out fresh)
@@ -88,35 +90,35 @@ module _ (t : ℕ) where
       c .loop .inv .5 (h .keyList) (h .path) (h .times) (h .forest) (h .other) (h .held) (above-is (c .before) (h .keyList) (h .path) (h .held .tabled) (h .held .place-is))
 
   -- the version has an element left, that comes before the archive's
-  newer : (c : write-added-lts.Then2 (write-added-calls t) (write-added-at t) write-added.Post write-added-Inv-loop write-added-μ-loop) → c .before .before .before .before .loop .q < c .before .before .before .before .before .before .before .before .before .before .before .before .before .before .args .vhi
+  newer : (c : write-added-lts.Then2 (write-added-calls t) (write-added-at t) write-added.Post write-added-Inv-loop write-added-μ-loop) → c .before .before .before .before .before .loop .q < c .before .before .before .before .before .before .before .before .before .before .before .before .before .before .before .args .vhi
   newer c =
-      let x = way (c .before .before .before .before) in
-      let h = c .before .before .before .before .before .before .before .before .before .before .before .before .before .before .pre .1 .0 in
-      there x (c .before .before .before .loop-test .taken) (λ z. omega (arith, sym (order-at x (c .before .before .before .loop-test .taken) (c .before .before .own-place .ensures (h .keyList) (h .path) (h .held .tabled) (h .held .place-is)) (c .before .order-of .ensures (h .keyList) (h .path) (h .held .tabled))) ∙ z, c .if2 .taken))
+      let x = way (c .before .before .before .before .before) in
+      let h = c .before .before .before .before .before .before .before .before .before .before .before .before .before .before .before .pre .1 .0 in
+      there x (c .before .before .before .before .loop-test .taken) (λ z. omega (arith, sym (order-at x (c .before .before .before .before .loop-test .taken) (c .before .before .before .own-place .ensures (h .keyList) (h .path) (h .held .tabled) (h .held .place-is)) (c .before .before .order-of .ensures (h .keyList) (h .path) (h .held .tabled))) ∙ z, c .if2 .taken))
 
   -- both have the next one
-  equal : (c : write-added-lts.Else3 (write-added-calls t) (write-added-at t) write-added.Post write-added-Inv-loop write-added-μ-loop) {K : KeyList} {w : Path} {u : Times} {whole first : Forest} (x : Way (c .before .before .before .before .before .before .before .before .before .before .before .before .before .before .before .args .src .now) (c .before .before .before .before .before .before .before .before .before .before .before .before .before .before .before .args .tape .now) (c .before .before .before .before .before .loop .p) (c .before .before .before .before .before .before .before .before .before .before .before .before .before .before .before .args .hi) (c .before .before .before .before .before .before .before .before .before .before .before .before .before .before .before .args .vsrc .now) (c .before .before .before .before .before .before .before .before .before .before .before .before .before .before .before .args .vtape .now) (c .before .before .before .before .before .loop .q) (c .before .before .before .before .before .before .before .before .before .before .before .before .before .before .before .args .vhi) (c .before .before .before .before .before .before .before .before .before .before .before .before .before .before .before .args .n) K w u whole first (c .before .before .before .before .before .before .before .before .before .before .before .before .before .before .before .args .out .now) (c .before .before .before .before .before .before .before .before .before .before .before .before .before .before .before .args .at) (c .before .before .before .before .before .loop .to) (c .before .before .before .before .before .loop .out) (c .before .before .before .before .before .loop .fresh))
-      → Table (c .before .before .before .before .before .before .before .before .before .before .before .before .before .before .before .args .text .now) (c .before .before .before .before .before .before .before .before .before .before .before .before .before .before .before .args .table .now) (c .before .before .before .before .before .before .before .before .before .before .before .before .before .before .before .args .paths) K → placeOf K w ≡ c .before .before .before .before .before .before .before .before .before .before .before .before .before .before .before .args .place → orderAt x (c .before .before .before .before .loop-test .taken) ≡ 1
+  equal : (c : write-added-lts.Else3 (write-added-calls t) (write-added-at t) write-added.Post write-added-Inv-loop write-added-μ-loop) {K : KeyList} {w : Path} {u : Times} {whole first : Forest} (x : Way (c .before .before .before .before .before .before .before .before .before .before .before .before .before .before .before .before .args .src .now) (c .before .before .before .before .before .before .before .before .before .before .before .before .before .before .before .before .args .tape .now) (c .before .before .before .before .before .before .loop .p) (c .before .before .before .before .before .before .before .before .before .before .before .before .before .before .before .before .args .hi) (c .before .before .before .before .before .before .before .before .before .before .before .before .before .before .before .before .args .vsrc .now) (c .before .before .before .before .before .before .before .before .before .before .before .before .before .before .before .before .args .vtape .now) (c .before .before .before .before .before .before .loop .q) (c .before .before .before .before .before .before .before .before .before .before .before .before .before .before .before .before .args .vhi) (c .before .before .before .before .before .before .before .before .before .before .before .before .before .before .before .before .args .n) K w u whole first (c .before .before .before .before .before .before .before .before .before .before .before .before .before .before .before .before .args .out .now) (c .before .before .before .before .before .before .before .before .before .before .before .before .before .before .before .before .args .at) (c .before .before .before .before .before .before .loop .to) (c .before .before .before .before .before .before .loop .out) (c .before .before .before .before .before .before .loop .fresh))
+      → Table (c .before .before .before .before .before .before .before .before .before .before .before .before .before .before .before .before .args .text .now) (c .before .before .before .before .before .before .before .before .before .before .before .before .before .before .before .before .args .table .now) (c .before .before .before .before .before .before .before .before .before .before .before .before .before .before .before .before .args .paths) K → placeOf K w ≡ c .before .before .before .before .before .before .before .before .before .before .before .before .before .before .before .before .args .place → orderAt x (c .before .before .before .before .before .loop-test .taken) ≡ 1
   equal c {K} {w} x a b =
-      let l = c .before .before .before .before .loop-test .taken in
-      let o = sym (order-at x l (c .before .before .before .own-place .ensures K w a b) (c .before .before .order-of .ensures K w a)) in
+      let l = c .before .before .before .before .before .loop-test .taken in
+      let o = sym (order-at x l (c .before .before .before .before .own-place .ensures K w a b) (c .before .before .before .order-of .ensures K w a)) in
       order-same (label K w (nextOf x l .name) (nextOf x l .kids)) (firstLabel K w (x .other)) (λ z. c .before .if2 .left (o ∙ z)) (λ z. c .if3 .left (o ∙ z))
 
-  matched : (c : write-added-lts.Else3 (write-added-calls t) (write-added-at t) write-added.Post write-added-Inv-loop write-added-μ-loop) → c .before .before .before .before .before .loop .q < c .before .before .before .before .before .before .before .before .before .before .before .before .before .before .before .args .vhi
+  matched : (c : write-added-lts.Else3 (write-added-calls t) (write-added-at t) write-added.Post write-added-Inv-loop write-added-μ-loop) → c .before .before .before .before .before .before .loop .q < c .before .before .before .before .before .before .before .before .before .before .before .before .before .before .before .before .args .vhi
   matched c =
-      let x = way (c .before .before .before .before .before) in
-      let h = c .before .before .before .before .before .before .before .before .before .before .before .before .before .before .before .pre .1 .0 .held in
+      let x = way (c .before .before .before .before .before .before) in
+      let h = c .before .before .before .before .before .before .before .before .before .before .before .before .before .before .before .before .pre .1 .0 .held in
       let e = equal c x (h .tabled) (h .place-is) in
-      there x (c .before .before .before .before .loop-test .taken) (λ z. omega (arith, e, z))
+      there x (c .before .before .before .before .before .loop-test .taken) (λ z. omega (arith, e, z))
 
-  grown : (c : write-added-lts.After-write-both (write-added-calls t) (write-added-at t) write-added.Post write-added-Inv-loop write-added-μ-loop) → Grew (c .before .before .before .before .before .before .before .loop .out) (c .before .before .before .before .before .before .before .loop .to) (bothPart (c .before .before .before .before .before .before .before .before .before .before .before .before .before .before .before .before .before .args .n) (nextOf (way (c .before .before .before .before .before .before .before)) (c .before .before .before .before .before .before .loop-test .taken) .own) (nextOf (way (c .before .before .before .before .before .before .before)) (c .before .before .before .before .before .before .loop-test .taken) .name) (inside (c .before .before .before .before .before .before .before .before .before .before .before .before .before .before .before .before .before .pre .1 .0 .keyList) (c .before .before .before .before .before .before .before .before .before .before .before .before .before .before .before .before .before .args .n) (c .before .before .before .before .before .before .before .before .before .before .before .before .before .before .before .before .before .pre .1 .0 .path ▸ nextOf (way (c .before .before .before .before .before .before .before)) (c .before .before .before .before .before .before .loop-test .taken) .name) (setIn (c .before .before .before .before .before .before .before .before .before .before .before .before .before .before .before .before .before .args .n) (c .before .before .before .before .before .before .before .before .before .before .before .before .before .before .before .before .before .pre .1 .0 .times) (nextOf (way (c .before .before .before .before .before .before .before)) (c .before .before .before .before .before .before .loop-test .taken) .own)) (nextOf (way (c .before .before .before .before .before .before .before)) (c .before .before .before .before .before .before .loop-test .taken) .kids) (otherOf (way (c .before .before .before .before .before .before .before)) (matched (c .before .before)) .kids)))
-      (sibling (nextOf (way (c .before .before .before .before .before .before .before)) (c .before .before .before .before .before .before .loop-test .taken) .own) (nextOf (way (c .before .before .before .before .before .before .before)) (c .before .before .before .before .before .before .loop-test .taken) .name) (nextOf (way (c .before .before .before .before .before .before .before)) (c .before .before .before .before .before .before .loop-test .taken) .kids)) (nextAt (c .before .before .before .before .before .before .before .before .before .before .before .before .before .before .before .before .before .args .vtape .now) (c .before .before .before .before .before .before .before .loop .q) - c .before .before .before .before .before .before .before .loop .q) (262144 * (nextAt (c .before .before .before .before .before .before .before .before .before .before .before .before .before .before .before .before .before .args .tape .now) (c .before .before .before .before .before .before .before .loop .p) - c .before .before .before .before .before .before .before .loop .p + (nextAt (c .before .before .before .before .before .before .before .before .before .before .before .before .before .before .before .before .before .args .vtape .now) (c .before .before .before .before .before .before .before .loop .q) - c .before .before .before .before .before .before .before .loop .q))) (c .write-both .result) (c .write-both .last .1 .1 .1 .1 .1 .1 .1 .1 .1 .1 .1 .1 .0)
+  grown : (c : write-added-lts.After-write-both (write-added-calls t) (write-added-at t) write-added.Post write-added-Inv-loop write-added-μ-loop) → Grew (c .before .before .before .before .before .before .before .before .loop .out) (c .before .before .before .before .before .before .before .before .loop .to) (bothPart (c .before .before .before .before .before .before .before .before .before .before .before .before .before .before .before .before .before .before .args .n) (nextOf (way (c .before .before .before .before .before .before .before .before)) (c .before .before .before .before .before .before .before .loop-test .taken) .own) (nextOf (way (c .before .before .before .before .before .before .before .before)) (c .before .before .before .before .before .before .before .loop-test .taken) .name) (inside (c .before .before .before .before .before .before .before .before .before .before .before .before .before .before .before .before .before .before .pre .1 .0 .keyList) (c .before .before .before .before .before .before .before .before .before .before .before .before .before .before .before .before .before .before .args .n) (c .before .before .before .before .before .before .before .before .before .before .before .before .before .before .before .before .before .before .pre .1 .0 .path ▸ nextOf (way (c .before .before .before .before .before .before .before .before)) (c .before .before .before .before .before .before .before .loop-test .taken) .name) (setIn (c .before .before .before .before .before .before .before .before .before .before .before .before .before .before .before .before .before .before .args .n) (c .before .before .before .before .before .before .before .before .before .before .before .before .before .before .before .before .before .before .pre .1 .0 .times) (nextOf (way (c .before .before .before .before .before .before .before .before)) (c .before .before .before .before .before .before .before .loop-test .taken) .own)) (nextOf (way (c .before .before .before .before .before .before .before .before)) (c .before .before .before .before .before .before .before .loop-test .taken) .kids) (otherOf (way (c .before .before .before .before .before .before .before .before)) (matched (c .before .before)) .kids)))
+      (sibling (nextOf (way (c .before .before .before .before .before .before .before .before)) (c .before .before .before .before .before .before .before .loop-test .taken) .own) (nextOf (way (c .before .before .before .before .before .before .before .before)) (c .before .before .before .before .before .before .before .loop-test .taken) .name) (nextOf (way (c .before .before .before .before .before .before .before .before)) (c .before .before .before .before .before .before .before .loop-test .taken) .kids)) (nextAt (c .before .before .before .before .before .before .before .before .before .before .before .before .before .before .before .before .before .before .args .vtape .now) (c .before .before .before .before .before .before .before .before .loop .q) - c .before .before .before .before .before .before .before .before .loop .q) (262144 * (nextAt (c .before .before .before .before .before .before .before .before .before .before .before .before .before .before .before .before .before .before .args .tape .now) (c .before .before .before .before .before .before .before .before .loop .p) - c .before .before .before .before .before .before .before .before .loop .p + (nextAt (c .before .before .before .before .before .before .before .before .before .before .before .before .before .before .before .before .before .before .args .vtape .now) (c .before .before .before .before .before .before .before .before .loop .q) - c .before .before .before .before .before .before .before .before .loop .q))) (record { at = c .before .before .before .before .before .before .before .before .loop .to + c .write-both .result .at; fresh = c .write-both .result .fresh }) (putMid (c .before .before .before .before .least .result) (length (c .before .before .before .before .before .before .before .before .loop .out) - c .before .before .before .before .least .result) (c .before .before .before .before .before .before .before .before .loop .out) (c .write-both .last .1 .1 .1 .1 .1 .1 .1 .1 .1 .1 .1 .1 .0))
   grown c =
-      let x = way (c .before .before .before .before .before .before .before) in
-      let l = c .before .before .before .before .before .before .loop-test .taken in
+      let x = way (c .before .before .before .before .before .before .before .before) in
+      let l = c .before .before .before .before .before .before .before .loop-test .taken in
       let i = matched (c .before .before) in
-      let h = c .before .before .before .before .before .before .before .before .before .before .before .before .before .before .before .before .before .pre .1 .0 in
-      c .write-both .ensures (h .keyList) (h .path) (h .times) (nextOf x l .own) (nextOf x l .name) (nextOf x l .kids) (otherOf x i .kids) (both-of x l i (equal (c .before .before) x (h .held .tabled) (h .held .place-is)) (h .held .tabled) (c .before .before .before .before .before .own-place .ensures (h .keyList) (h .path) (h .held .tabled) (h .held .place-is)) (h .held .set))
+      let h = c .before .before .before .before .before .before .before .before .before .before .before .before .before .before .before .before .before .before .pre .1 .0 in
+      grew-lent (c .before .before .before .before .before .before .before .before .loop .out) (c .before .before .before .before .before .before .before .before .loop .to) (c .before .before .before .before .least .result) (c .before .before .before .before .least .ensures) (c .write-both .ensures (h .keyList) (h .path) (h .times) (nextOf x l .own) (nextOf x l .name) (nextOf x l .kids) (otherOf x i .kids) (both-of x l i (equal (c .before .before) x (h .held .tabled) (h .held .place-is)) (h .held .tabled) (c .before .before .before .before .before .before .own-place .ensures (h .keyList) (h .path) (h .held .tabled) (h .held .place-is)) (h .held .set)))
 
   write-added-is-above-requires : write-added-lts.Need-is-above-requires (write-added-calls t) (write-added-at t) write-added.Post write-added-Inv-loop write-added-μ-loop
   write-added-is-above-requires c κs = c .before .before .before .before .before .before .before .pre .1 .0 .held .tabled .held
@@ -154,142 +156,189 @@ module _ (t : ℕ) where
       let h = c .before .before .before .before .before .before .before .before .before .before .before .before .pre .1 .0 .held in
       record { keyList = c .before .before .before .before .before .before .before .before .before .before .before .before .pre .1 .0 .keyList; path = c .before .before .before .before .before .before .before .before .before .before .before .before .pre .1 .0 .path; tabled = h .tabled; place-is = sym (c .own-place .ensures (c .before .before .before .before .before .before .before .before .before .before .before .before .pre .1 .0 .keyList) (c .before .before .before .before .before .before .before .before .before .before .before .before .pre .1 .0 .path) (h .tabled) (h .place-is) (s .own) (s .name) (s .kids) (s .at)); own = s .own; name = s .name; kids = s .kids; at = s .at; keys = s .keys; other = x .other; vtape = x .vtape; version = x .version }
 
+  write-added-least-requires : write-added-lts.Need-least-requires (write-added-calls t) (write-added-at t) write-added.Post write-added-Inv-loop write-added-μ-loop
+  write-added-least-requires c κs = search needs
+
   write-added-view-at-requires : write-added-lts.Need-view-at-requires (write-added-calls t) (write-added-at t) write-added.Post write-added-Inv-loop write-added-μ-loop
-  write-added-view-at-requires c κs = front (way (c .before .before .before .before) .vtape) (newer c) .held
+  write-added-view-at-requires c κs = front (way (c .before .before .before .before .before) .vtape) (newer c) .held
+
+  write-added-sub-put-newest : write-added-lts.Need-sub-put-newest (write-added-calls t) (write-added-at t) write-added.Post write-added-Inv-loop write-added-μ-loop
+  write-added-sub-put-newest c = omega (arith, c .before .before .least .ensures)
+
+  write-added-part-put-newest-start : write-added-lts.Need-part-put-newest-start (write-added-calls t) (write-added-at t) write-added.Post write-added-Inv-loop write-added-μ-loop
+  write-added-part-put-newest-start c = omega (arith, c .before .before .least .ensures)
+
+  write-added-part-put-newest-end : write-added-lts.Need-part-put-newest-end (write-added-calls t) (write-added-at t) write-added.Post write-added-Inv-loop write-added-μ-loop
+  write-added-part-put-newest-end c = search needs
 
   write-added-put-newest-requires : write-added-lts.Need-put-newest-requires (write-added-calls t) (write-added-at t) write-added.Post write-added-Inv-loop write-added-μ-loop
   write-added-put-newest-requires c κs =
-      let x = way (c .before .before .before .before .before .before) in
+      let x = way (c .before .before .before .before .before .before .before) in
       let o = otherOf x (newer (c .before .before)) in
       let g = front (x .vtape) (newer (c .before .before)) in
-      rw (c .before .view-at .ensures) (c .before .before .before .before .before .before .before .before .before .before .before .before .before .before .before .before .pre .1 .1, record { forest = _; tape = o .here }, omega (arith, g .inside, c .before .before .before .before .before .before .before .before .before .before .before .before .before .before .before .before .pre .1 .3), omega (arith, c .before .before .before .before .before .before .loop .inv .2, c .before .before .before .before .before .before .before .before .before .before .before .before .before .before .before .before .pre .1 .4))
+      rw (c .before .view-at .ensures) (c .before .before .before .before .before .before .before .before .before .before .before .before .before .before .before .before .before .pre .1 .1, record { forest = _; tape = o .here }, omega (arith, g .inside, c .before .before .before .before .before .before .before .before .before .before .before .before .before .before .before .before .before .pre .1 .3), omega (arith, c .before .before .before .before .before .before .before .loop .inv .2, c .before .before .before .before .before .before .before .before .before .before .before .before .before .before .before .before .before .pre .1 .4))
+
+  write-added-add-to : write-added-lts.Need-add-to (write-added-calls t) (write-added-at t) write-added.Post write-added-Inv-loop write-added-μ-loop
+  write-added-add-to c =
+      let g = front (way (c .before .before .before .before .before .before .before .before .before .before) .vtape) (newer (c .before .before .before .before .before)) in
+      omega (arith, c .before .before .before .before .before .before .before .before .before .before .loop .inv .2, c .before .before .before .before .before .before .before .before .before .before .before .before .before .before .before .before .before .before .before .before .pre .1 .4, g .forward, g .inside, (rw (c .before .before .before .before .view-at .ensures) at (c .before .before .put-newest .ensures)) .1)
 
   write-added-sub-fresh : write-added-lts.Need-sub-fresh (write-added-calls t) (write-added-at t) write-added.Post write-added-Inv-loop write-added-μ-loop
-  write-added-sub-fresh c = rw (c .before .before .before .before .before .view-at .ensures) (omega (arith, front (way (c .before .before .before .before .before .before .before .before .before .before) .vtape) (newer (c .before .before .before .before .before .before)) .forward))
+  write-added-sub-fresh c = rw (c .before .before .before .before .before .view-at .ensures) (omega (arith, front (way (c .before .before .before .before .before .before .before .before .before .before .before) .vtape) (newer (c .before .before .before .before .before .before)) .forward))
 
   write-added-add-fresh : write-added-lts.Need-add-fresh (write-added-calls t) (write-added-at t) write-added.Post write-added-Inv-loop write-added-μ-loop
-  write-added-add-fresh c = rw (c .before .before .before .before .before .view-at .ensures) (omega (arith, front (way (c .before .before .before .before .before .before .before .before .before .before) .vtape) (newer (c .before .before .before .before .before .before)) .inside, c .before .before .before .before .before .before .before .before .before .before .loop .inv .3, c .before .before .before .before .before .before .before .before .before .before .before .before .before .before .before .before .before .before .before .before .pre .1 .3))
+  write-added-add-fresh c = rw (c .before .before .before .before .before .view-at .ensures) (omega (arith, front (way (c .before .before .before .before .before .before .before .before .before .before .before) .vtape) (newer (c .before .before .before .before .before .before)) .inside, c .before .before .before .before .before .before .before .before .before .before .before .loop .inv .3, c .before .before .before .before .before .before .before .before .before .before .before .before .before .before .before .before .before .before .before .before .before .pre .1 .3))
 
   write-added-loop-less : write-added-lts.Need-loop-less (write-added-calls t) (write-added-at t) write-added.Post write-added-Inv-loop write-added-μ-loop
   write-added-loop-less c =
-      let g = front (way (c .before .before .before .before .before .before .before .before .before .before) .vtape) (newer (c .before .before .before .before .before .before)) in
+      let g = front (way (c .before .before .before .before .before .before .before .before .before .before .before) .vtape) (newer (c .before .before .before .before .before .before)) in
       rw (c .before .before .before .before .before .view-at .ensures) (omega (arith, g .forward, g .inside))
 
   write-added-loop-again : write-added-lts.Need-loop-again (write-added-calls t) (write-added-at t) write-added.Post write-added-Inv-loop write-added-μ-loop
   write-added-loop-again c =
       let e = c .before .before .before .before .before .view-at .ensures in
-      let l = c .before .before .before .before .before .before .before .before .before .loop-test .taken in
-      let x = way (c .before .before .before .before .before .before .before .before .before .before) in
+      let l = c .before .before .before .before .before .before .before .before .before .before .loop-test .taken in
+      let x = way (c .before .before .before .before .before .before .before .before .before .before .before) in
       let o = otherOf x (newer (c .before .before .before .before .before .before)) in
       let g = front (x .vtape) (newer (c .before .before .before .before .before .before)) in
       let y = rw e at (c .before .before .before .put-newest .ensures) in
       rw e (
-        c .before .before .before .before .before .before .before .before .before .before .loop .inv .0,
-        omega (arith, c .before .before .before .before .before .before .before .before .before .before .loop .inv .1, g .forward),
-        omega (arith, c .before .before .before .before .before .before .before .before .before .before .loop .inv .2, g .forward, g .inside, y .1),
-        omega (arith, c .before .before .before .before .before .before .before .before .before .before .loop .inv .3, g .forward, g .inside),
-        ap length (y .0 _ (o .here) .bytes) ∙ length-at _ _ _ ∙ c .before .before .before .before .before .before .before .before .before .before .loop .inv .4,
-        λ K w u f v h a. let z = c .before .before .before .before .before .before .before .before .before .before .loop .inv .5 K w u f v h a in way-new z l (order-at z l (c .before .before .before .before .before .before .before .before .own-place .ensures K w (h .tabled) (h .place-is)) (c .before .before .before .before .before .before .before .order-of .ensures K w (h .tabled)) ∙ c .before .before .before .before .before .before .if2 .taken) (y .0),
+        c .before .before .before .before .before .before .before .before .before .before .before .loop .inv .0,
+        omega (arith, c .before .before .before .before .before .before .before .before .before .before .before .loop .inv .1, g .forward),
+        omega (arith, c .before .before .before .before .before .before .before .before .before .before .before .loop .inv .2, g .forward, g .inside, y .1),
+        omega (arith, c .before .before .before .before .before .before .before .before .before .before .before .loop .inv .3, g .forward, g .inside),
+        ap length (lent-back (c .before .before .before .before .before .before .before .before .before .before .before .loop .out) (c .before .before .before .before .before .before .before .before .before .before .before .loop .to) (c .before .before .before .before .before .before .before .least .result) (c .before .before .before .before .before .before .before .least .ensures) (y .0 _ (o .here)) .bytes) ∙ length-at _ _ _ ∙ c .before .before .before .before .before .before .before .before .before .before .before .loop .inv .4,
+        λ K w u f v h a. let z = c .before .before .before .before .before .before .before .before .before .before .before .loop .inv .5 K w u f v h a in way-new z l (order-at z l (c .before .before .before .before .before .before .before .before .before .own-place .ensures K w (h .tabled) (h .place-is)) (c .before .before .before .before .before .before .before .before .order-of .ensures K w (h .tabled)) ∙ c .before .before .before .before .before .before .if2 .taken) (λ g k. lent-back (c .before .before .before .before .before .before .before .before .before .before .before .loop .out) (c .before .before .before .before .before .before .before .before .before .before .before .loop .to) (c .before .before .before .before .before .before .before .least .result) (c .before .before .before .before .before .before .before .least .ensures) (y .0 g k)),
       )
 
+  write-added-sub-write-old : write-added-lts.Need-sub-write-old (write-added-calls t) (write-added-at t) write-added.Post write-added-Inv-loop write-added-μ-loop
+  write-added-sub-write-old c = omega (arith, c .before .before .least .ensures)
+
+  write-added-part-write-old-start : write-added-lts.Need-part-write-old-start (write-added-calls t) (write-added-at t) write-added.Post write-added-Inv-loop write-added-μ-loop
+  write-added-part-write-old-start c = omega (arith, c .before .before .least .ensures)
+
+  write-added-part-write-old-end : write-added-lts.Need-part-write-old-end (write-added-calls t) (write-added-at t) write-added.Post write-added-Inv-loop write-added-μ-loop
+  write-added-part-write-old-end c = search needs
+
   write-added-write-old-requires : write-added-lts.Need-write-old-requires (write-added-calls t) (write-added-at t) write-added.Post write-added-Inv-loop write-added-μ-loop
-  write-added-write-old-requires c κs = let x = way (c .before .before .before .before .before .before) in
-      let l = c .before .before .before .before .before .loop-test .taken in
+  write-added-write-old-requires c κs = let x = way (c .before .before .before .before .before .before .before) in
+      let l = c .before .before .before .before .before .before .loop-test .taken in
       let s = nextOf x l in
       let g = front (x .tape) l in
-      let h = c .before .before .before .before .before .before .before .before .before .before .before .before .before .before .before .before .pre .1 .0 .held .set in
-      (g .forward, record { forest = _; tape = s .at .here }, omega (arith, g .inside, c .before .before .before .before .before .before .before .before .before .before .before .before .before .before .before .before .pre .1 .2), h .ordered, h .within, h .short, omega (arith, c .before .before .before .before .before .before .loop .inv .2, c .before .before .before .before .before .before .before .before .before .before .before .before .before .before .before .before .pre .1 .4))
+      let h = c .before .before .before .before .before .before .before .before .before .before .before .before .before .before .before .before .before .pre .1 .0 .held .set in
+      (g .forward, record { forest = _; tape = s .at .here }, omega (arith, g .inside, c .before .before .before .before .before .before .before .before .before .before .before .before .before .before .before .before .before .pre .1 .2), h .ordered, h .within, h .short)
+
+  write-added-add-to-2 : write-added-lts.Need-add-to-2 (write-added-calls t) (write-added-at t) write-added.Post write-added-Inv-loop write-added-μ-loop
+  write-added-add-to-2 c =
+      let g = front (way (c .before .before .before .before .before .before .before .before .before .before) .tape) (c .before .before .before .before .before .before .before .before .before .loop-test .taken) in
+      omega (arith, c .before .before .before .before .before .before .before .before .before .before .loop .inv .2, c .before .before .before .before .before .before .before .before .before .before .before .before .before .before .before .before .before .before .before .before .pre .1 .4, g .forward, g .inside, c .before .before .write-old .ensures .1)
 
   write-added-view-at-requires-2 : write-added-lts.Need-view-at-requires-2 (write-added-calls t) (write-added-at t) write-added.Post write-added-Inv-loop write-added-μ-loop
-  write-added-view-at-requires-2 c κs = front (way (c .before .before .before .before .before .before .before .before .before) .tape) (c .before .before .before .before .before .before .before .before .loop-test .taken) .held
+  write-added-view-at-requires-2 c κs = front (way (c .before .before .before .before .before .before .before .before .before .before) .tape) (c .before .before .before .before .before .before .before .before .before .loop-test .taken) .held
 
   write-added-loop-less-2 : write-added-lts.Need-loop-less-2 (write-added-calls t) (write-added-at t) write-added.Post write-added-Inv-loop write-added-μ-loop
   write-added-loop-less-2 c =
-      let g = front (way (c .before .before .before .before .before .before .before .before .before .before) .tape) (c .before .before .before .before .before .before .before .before .before .loop-test .taken) in
+      let g = front (way (c .before .before .before .before .before .before .before .before .before .before .before) .tape) (c .before .before .before .before .before .before .before .before .before .before .loop-test .taken) in
       rw (c .view-at2 .ensures) (omega (arith, g .forward, g .inside))
 
   write-added-loop-again-2 : write-added-lts.Need-loop-again-2 (write-added-calls t) (write-added-at t) write-added.Post write-added-Inv-loop write-added-μ-loop
   write-added-loop-again-2 c =
       let e = c .view-at2 .ensures in
-      let l = c .before .before .before .before .before .before .before .before .before .loop-test .taken in
-      let x = way (c .before .before .before .before .before .before .before .before .before .before) in
+      let l = c .before .before .before .before .before .before .before .before .before .before .loop-test .taken in
+      let x = way (c .before .before .before .before .before .before .before .before .before .before .before) in
       let s = nextOf x l in
       let g = front (x .tape) l in
       let y = c .before .before .before .write-old .ensures in
-      let m : c .before .before .before .before .before .before .before .before .before .before .before .before .before .before .before .before .before .before .before .before .args .n ≤ 999 = omega (arith, c .before .before .before .before .before .before .before .before .before .before .before .before .before .before .before .before .before .before .before .before .pre .1 .1) in
+      let m : c .before .before .before .before .before .before .before .before .before .before .before .before .before .before .before .before .before .before .before .before .before .args .n ≤ 999 = omega (arith, c .before .before .before .before .before .before .before .before .before .before .before .before .before .before .before .before .before .before .before .before .before .pre .1 .1) in
       rw e (
-        omega (arith, c .before .before .before .before .before .before .before .before .before .before .loop .inv .0, g .forward),
-        c .before .before .before .before .before .before .before .before .before .before .loop .inv .1,
-        omega (arith, c .before .before .before .before .before .before .before .before .before .before .loop .inv .2, g .forward, g .inside, y .1),
-        c .before .before .before .before .before .before .before .before .before .before .loop .inv .3,
-        ap length (y .0 (c .before .before .before .before .before .before .before .before .before .before .before .before .before .before .before .before .before .before .before .before .args .n) (c .before .before .before .before .before .before .before .before .before .before .before .before .before .before .before .before .before .before .before .before .pre .1 .0 .times) (s .own) (s .name) (s .kids) m (s .at) (c .before .before .before .before .before .before .before .before .before .before .before .before .before .before .before .before .before .before .before .before .pre .1 .0 .held .set) .bytes) ∙ length-at _ _ _ ∙ c .before .before .before .before .before .before .before .before .before .before .loop .inv .4,
-        λ K w u f v h a. let z = c .before .before .before .before .before .before .before .before .before .before .loop .inv .5 K w u f v h a in
-            way-old z l (order-at z l (c .before .before .before .before .before .before .before .before .own-place .ensures K w (h .tabled) (h .place-is)) (c .before .before .before .before .before .before .before .order-of .ensures K w (h .tabled)) ∙ c .before .before .before .before .before .if3 .taken) (y .0 (c .before .before .before .before .before .before .before .before .before .before .before .before .before .before .before .before .before .before .before .before .args .n) u (nextOf z l .own) (nextOf z l .name) (nextOf z l .kids) m (nextOf z l .at) (h .set)),
+        omega (arith, c .before .before .before .before .before .before .before .before .before .before .before .loop .inv .0, g .forward),
+        c .before .before .before .before .before .before .before .before .before .before .before .loop .inv .1,
+        omega (arith, c .before .before .before .before .before .before .before .before .before .before .before .loop .inv .2, g .forward, g .inside, y .1),
+        c .before .before .before .before .before .before .before .before .before .before .before .loop .inv .3,
+        ap length (lent-back (c .before .before .before .before .before .before .before .before .before .before .before .loop .out) (c .before .before .before .before .before .before .before .before .before .before .before .loop .to) (c .before .before .before .before .before .before .before .least .result) (c .before .before .before .before .before .before .before .least .ensures) (y .0 (c .before .before .before .before .before .before .before .before .before .before .before .before .before .before .before .before .before .before .before .before .before .args .n) (c .before .before .before .before .before .before .before .before .before .before .before .before .before .before .before .before .before .before .before .before .before .pre .1 .0 .times) (s .own) (s .name) (s .kids) m (s .at) (c .before .before .before .before .before .before .before .before .before .before .before .before .before .before .before .before .before .before .before .before .before .pre .1 .0 .held .set)) .bytes) ∙ length-at _ _ _ ∙ c .before .before .before .before .before .before .before .before .before .before .before .loop .inv .4,
+        λ K w u f v h a. let z = c .before .before .before .before .before .before .before .before .before .before .before .loop .inv .5 K w u f v h a in
+            way-old z l (order-at z l (c .before .before .before .before .before .before .before .before .before .own-place .ensures K w (h .tabled) (h .place-is)) (c .before .before .before .before .before .before .before .before .order-of .ensures K w (h .tabled)) ∙ c .before .before .before .before .before .if3 .taken) (lent-back (c .before .before .before .before .before .before .before .before .before .before .before .loop .out) (c .before .before .before .before .before .before .before .before .before .before .before .loop .to) (c .before .before .before .before .before .before .before .least .result) (c .before .before .before .before .before .before .before .least .ensures) (y .0 (c .before .before .before .before .before .before .before .before .before .before .before .before .before .before .before .before .before .before .before .before .before .args .n) u (nextOf z l .own) (nextOf z l .name) (nextOf z l .kids) m (nextOf z l .at) (h .set))),
       )
+
+  write-added-sub-write-both : write-added-lts.Need-sub-write-both (write-added-calls t) (write-added-at t) write-added.Post write-added-Inv-loop write-added-μ-loop
+  write-added-sub-write-both c = omega (arith, c .before .before .least .ensures)
+
+  write-added-part-write-both-start : write-added-lts.Need-part-write-both-start (write-added-calls t) (write-added-at t) write-added.Post write-added-Inv-loop write-added-μ-loop
+  write-added-part-write-both-start c = omega (arith, c .before .before .least .ensures)
+
+  write-added-part-write-both-end : write-added-lts.Need-part-write-both-end (write-added-calls t) (write-added-at t) write-added.Post write-added-Inv-loop write-added-μ-loop
+  write-added-part-write-both-end c = search needs
 
   write-added-write-both-requires : write-added-lts.Need-write-both-requires (write-added-calls t) (write-added-at t) write-added.Post write-added-Inv-loop write-added-μ-loop
   write-added-write-both-requires c κs =
-      let x = way (c .before .before .before .before .before .before) in
-      let l = c .before .before .before .before .before .loop-test .taken in
-      let h = c .before .before .before .before .before .before .before .before .before .before .before .before .before .before .before .before .pre .1 .0 .held in
+      let x = way (c .before .before .before .before .before .before .before) in
+      let l = c .before .before .before .before .before .before .loop-test .taken in
+      let h = c .before .before .before .before .before .before .before .before .before .before .before .before .before .before .before .before .before .pre .1 .0 .held in
       let u = matched (c .before) in
       let g = front (x .tape) l in
       let k = front (x .vtape) u in (
-        omega (arith, c .before .before .before .before .before .before .before .before .before .before .before .before .before .before .before .before .pre .0, c .before .before .before .before .before .before .loop .inv .0, g .forward, g .inside),
+        omega (arith, c .before .before .before .before .before .before .before .before .before .before .before .before .before .before .before .before .before .pre .0, c .before .before .before .before .before .before .before .loop .inv .0, g .forward, g .inside),
         (
           record {
-            keyList = c .before .before .before .before .before .before .before .before .before .before .before .before .before .before .before .before .pre .1 .0 .keyList;
-            path = c .before .before .before .before .before .before .before .before .before .before .before .before .before .before .before .before .pre .1 .0 .path;
-            times = c .before .before .before .before .before .before .before .before .before .before .before .before .before .before .before .before .pre .1 .0 .times;
+            keyList = c .before .before .before .before .before .before .before .before .before .before .before .before .before .before .before .before .before .pre .1 .0 .keyList;
+            path = c .before .before .before .before .before .before .before .before .before .before .before .before .before .before .before .before .before .pre .1 .0 .path;
+            times = c .before .before .before .before .before .before .before .before .before .before .before .before .before .before .before .before .before .pre .1 .0 .times;
             own = nextOf x l .own;
             name = nextOf x l .name;
             kids = nextOf x l .kids;
             other = otherOf x u .kids;
-            both = both-of x l u (equal (c .before) x (h .tabled) (h .place-is)) (h .tabled) (c .before .before .before .before .own-place .ensures (c .before .before .before .before .before .before .before .before .before .before .before .before .before .before .before .before .pre .1 .0 .keyList) (c .before .before .before .before .before .before .before .before .before .before .before .before .before .before .before .before .pre .1 .0 .path) (h .tabled) (h .place-is)) (h .set);
+            both = both-of x l u (equal (c .before) x (h .tabled) (h .place-is)) (h .tabled) (c .before .before .before .before .before .own-place .ensures (c .before .before .before .before .before .before .before .before .before .before .before .before .before .before .before .before .before .pre .1 .0 .keyList) (c .before .before .before .before .before .before .before .before .before .before .before .before .before .before .before .before .before .pre .1 .0 .path) (h .tabled) (h .place-is)) (h .set);
           },
-          c .before .before .before .before .before .before .before .before .before .before .before .before .before .before .before .before .pre .1 .1,
-          omega (arith, g .inside, c .before .before .before .before .before .before .before .before .before .before .before .before .before .before .before .before .pre .1 .2),
-          omega (arith, k .inside, c .before .before .before .before .before .before .before .before .before .before .before .before .before .before .before .before .pre .1 .3),
-          omega (arith, c .before .before .before .before .before .before .loop .inv .2, c .before .before .before .before .before .before .before .before .before .before .before .before .before .before .before .before .pre .1 .4, g .inside, k .inside),
+          c .before .before .before .before .before .before .before .before .before .before .before .before .before .before .before .before .before .pre .1 .1,
+          omega (arith, g .inside, c .before .before .before .before .before .before .before .before .before .before .before .before .before .before .before .before .before .pre .1 .2),
+          omega (arith, k .inside, c .before .before .before .before .before .before .before .before .before .before .before .before .before .before .before .before .before .pre .1 .3),
+          omega (arith, c .before .before .before .before .before .before .before .loop .inv .2, c .before .before .before .before .before .before .before .before .before .before .before .before .before .before .before .before .before .pre .1 .4, g .inside, k .inside),
         ),
       )
 
   write-added-view-at-requires-3 : write-added-lts.Need-view-at-requires-3 (write-added-calls t) (write-added-at t) write-added.Post write-added-Inv-loop write-added-μ-loop
-  write-added-view-at-requires-3 c κs = front (way (c .before .before .before .before .before .before .before .before .before) .tape) (c .before .before .before .before .before .before .before .before .loop-test .taken) .held
+  write-added-view-at-requires-3 c κs = front (way (c .before .before .before .before .before .before .before .before .before .before) .tape) (c .before .before .before .before .before .before .before .before .before .loop-test .taken) .held
 
   write-added-view-at-requires-4 : write-added-lts.Need-view-at-requires-4 (write-added-calls t) (write-added-at t) write-added.Post write-added-Inv-loop write-added-μ-loop
-  write-added-view-at-requires-4 c κs = front (way (c .before .before .before .before .before .before .before .before .before .before) .vtape) (matched (c .before .before .before .before .before)) .held
+  write-added-view-at-requires-4 c κs = front (way (c .before .before .before .before .before .before .before .before .before .before .before) .vtape) (matched (c .before .before .before .before .before)) .held
+
+  write-added-add-to-3 : write-added-lts.Need-add-to-3 (write-added-calls t) (write-added-at t) write-added.Post write-added-Inv-loop write-added-μ-loop
+  write-added-add-to-3 c =
+      let y = grown (c .before .before .before .before .before) in
+      let g = front (way (c .before .before .before .before .before .before .before .before .before .before .before .before .before) .tape) (c .before .before .before .before .before .before .before .before .before .before .before .before .loop-test .taken) in
+      let k = front (way (c .before .before .before .before .before .before .before .before .before .before .before .before .before) .vtape) (matched (c .before .before .before .before .before .before .before)) in
+      omega (arith, c .before .before .before .before .before .before .before .before .before .before .before .before .before .loop .inv .2, c .before .before .before .before .before .before .before .before .before .before .before .before .before .before .before .before .before .before .before .before .before .before .before .pre .1 .4, y .near, g .inside, k .inside)
 
   write-added-add-fresh-2 : write-added-lts.Need-add-fresh-2 (write-added-calls t) (write-added-at t) write-added.Post write-added-Inv-loop write-added-μ-loop
   write-added-add-fresh-2 c =
-      let y = grown (c .before .before .before .before .before) in
-      let k = front (way (c .before .before .before .before .before .before .before .before .before .before .before .before) .vtape) (matched (c .before .before .before .before .before .before .before)) in
-      omega (arith, y .few, c .before .before .before .before .before .before .before .before .before .before .before .before .loop .inv .3, k .inside, c .before .before .before .before .before .before .before .before .before .before .before .before .before .before .before .before .before .before .before .before .before .before .pre .1 .3)
+      let y = grown (c .before .before .before .before .before .before) in
+      let k = front (way (c .before .before .before .before .before .before .before .before .before .before .before .before .before .before) .vtape) (matched (c .before .before .before .before .before .before .before .before)) in
+      omega (arith, y .few, c .before .before .before .before .before .before .before .before .before .before .before .before .before .before .loop .inv .3, k .inside, c .before .before .before .before .before .before .before .before .before .before .before .before .before .before .before .before .before .before .before .before .before .before .before .before .pre .1 .3)
 
   write-added-loop-less-3 : write-added-lts.Need-loop-less-3 (write-added-calls t) (write-added-at t) write-added.Post write-added-Inv-loop write-added-μ-loop
   write-added-loop-less-3 c =
-      let g = front (way (c .before .before .before .before .before .before .before .before .before .before .before .before) .tape) (c .before .before .before .before .before .before .before .before .before .before .before .loop-test .taken) in
-      let k = front (way (c .before .before .before .before .before .before .before .before .before .before .before .before) .vtape) (matched (c .before .before .before .before .before .before .before)) in
-      rw (c .before .before .view-at3 .ensures, c .before .view-at4 .ensures) (omega (arith, g .forward, g .inside, k .forward, k .inside))
+      let g = front (way (c .before .before .before .before .before .before .before .before .before .before .before .before .before .before) .tape) (c .before .before .before .before .before .before .before .before .before .before .before .before .before .loop-test .taken) in
+      let k = front (way (c .before .before .before .before .before .before .before .before .before .before .before .before .before .before) .vtape) (matched (c .before .before .before .before .before .before .before .before)) in
+      rw (c .before .before .before .view-at3 .ensures, c .before .before .view-at4 .ensures) (omega (arith, g .forward, g .inside, k .forward, k .inside))
 
   write-added-loop-again-3 : write-added-lts.Need-loop-again-3 (write-added-calls t) (write-added-at t) write-added.Post write-added-Inv-loop write-added-μ-loop
   write-added-loop-again-3 c =
-      let e = c .before .before .view-at3 .ensures in
-      let d = c .before .view-at4 .ensures in
-      let l = c .before .before .before .before .before .before .before .before .before .before .before .loop-test .taken in
-      let i = matched (c .before .before .before .before .before .before .before) in
-      let y = grown (c .before .before .before .before .before) in
-      let g = front (way (c .before .before .before .before .before .before .before .before .before .before .before .before) .tape) l in
-      let k = front (way (c .before .before .before .before .before .before .before .before .before .before .before .before) .vtape) i in
+      let e = c .before .before .before .view-at3 .ensures in
+      let d = c .before .before .view-at4 .ensures in
+      let l = c .before .before .before .before .before .before .before .before .before .before .before .before .before .loop-test .taken in
+      let i = matched (c .before .before .before .before .before .before .before .before) in
+      let y = grown (c .before .before .before .before .before .before) in
+      let g = front (way (c .before .before .before .before .before .before .before .before .before .before .before .before .before .before) .tape) l in
+      let k = front (way (c .before .before .before .before .before .before .before .before .before .before .before .before .before .before) .vtape) i in
       rw (e, d) (
-        omega (arith, c .before .before .before .before .before .before .before .before .before .before .before .before .loop .inv .0, g .forward),
-        omega (arith, c .before .before .before .before .before .before .before .before .before .before .before .before .loop .inv .1, k .forward),
-        room-more (c .before .before .before .before .before .before .before .before .before .before .before .before .loop .to) (c .before .before .before .before .before .before .before .before .before .before .before .before .loop .inv .2) (y .near) (omega (arith, g .forward)) (g .inside) (omega (arith, k .forward)) (k .inside),
-        omega (arith, c .before .before .before .before .before .before .before .before .before .before .before .before .loop .inv .3, k .forward, k .inside, y .few),
-        ap length (y .wrote .bytes) ∙ length-at _ _ _ ∙ c .before .before .before .before .before .before .before .before .before .before .before .before .loop .inv .4,
-        λ K w u f v h a. let z = c .before .before .before .before .before .before .before .before .before .before .before .before .loop .inv .5 K w u f v h a in
-            let s = equal (c .before .before .before .before .before .before .before) z (h .tabled) (h .place-is) in
-            way-both z l i s (c .before .before .before .before .before .write-both .ensures K w u (nextOf z l .own) (nextOf z l .name) (nextOf z l .kids) (otherOf z i .kids) (both-of z l i s (h .tabled) (c .before .before .before .before .before .before .before .before .before .before .own-place .ensures K w (h .tabled) (h .place-is)) (h .set))),
+        omega (arith, c .before .before .before .before .before .before .before .before .before .before .before .before .before .before .loop .inv .0, g .forward),
+        omega (arith, c .before .before .before .before .before .before .before .before .before .before .before .before .before .before .loop .inv .1, k .forward),
+        room-more (c .before .before .before .before .before .before .before .before .before .before .before .before .before .before .loop .to) (c .before .before .before .before .before .before .before .before .before .before .before .before .before .before .loop .inv .2) (y .near) (omega (arith, g .forward)) (g .inside) (omega (arith, k .forward)) (k .inside),
+        omega (arith, c .before .before .before .before .before .before .before .before .before .before .before .before .before .before .loop .inv .3, k .forward, k .inside, y .few),
+        ap length (y .wrote .bytes) ∙ length-at _ _ _ ∙ c .before .before .before .before .before .before .before .before .before .before .before .before .before .before .loop .inv .4,
+        λ K w u f v h a. let z = c .before .before .before .before .before .before .before .before .before .before .before .before .before .before .loop .inv .5 K w u f v h a in
+            let s = equal (c .before .before .before .before .before .before .before .before) z (h .tabled) (h .place-is) in
+            way-both z l i s (grew-lent (c .before .before .before .before .before .before .before .before .before .before .before .before .before .before .loop .out) (c .before .before .before .before .before .before .before .before .before .before .before .before .before .before .loop .to) (c .before .before .before .before .before .before .before .before .before .before .least .result) (c .before .before .before .before .before .before .before .before .before .before .least .ensures) (c .before .before .before .before .before .before .write-both .ensures K w u (nextOf z l .own) (nextOf z l .name) (nextOf z l .kids) (otherOf z i .kids) (both-of z l i s (h .tabled) (c .before .before .before .before .before .before .before .before .before .before .before .before .own-place .ensures K w (h .tabled) (h .place-is)) (h .set)))),
       )
 
   write-added-write-new-requires : write-added-lts.Need-write-new-requires (write-added-calls t) (write-added-at t) write-added.Post write-added-Inv-loop write-added-μ-loop
@@ -297,11 +346,11 @@ module _ (t : ℕ) where
       let x = way (c .before .before) in
       (c .before .before .before .before .before .before .before .before .before .before .before .before .pre .1 .1, record { forest = x .other; tape = x .vtape }, c .before .before .before .before .before .before .before .before .before .before .before .before .pre .1 .3, omega (arith, c .before .before .loop .inv .2, c .before .before .before .before .before .before .before .before .before .before .before .before .pre .1 .4))
 
-  write-added-sub-t44 : write-added-lts.Need-sub-t44 (write-added-calls t) (write-added-at t) write-added.Post write-added-Inv-loop write-added-μ-loop
-  write-added-sub-t44 c = tape-le (way (c .before .before .before .before .before) .vtape)
+  write-added-sub-t53 : write-added-lts.Need-sub-t53 (write-added-calls t) (write-added-at t) write-added.Post write-added-Inv-loop write-added-μ-loop
+  write-added-sub-t53 c = tape-le (way (c .before .before .before .before .before) .vtape)
 
-  write-added-add-t45 : write-added-lts.Need-add-t45 (write-added-calls t) (write-added-at t) write-added.Post write-added-Inv-loop write-added-μ-loop
-  write-added-add-t45 c = omega (arith, c .before .before .before .before .before .loop .inv .3, c .before .before .before .before .before .before .before .before .before .before .before .before .before .before .before .pre .1 .3)
+  write-added-add-t54 : write-added-lts.Need-add-t54 (write-added-calls t) (write-added-at t) write-added.Post write-added-Inv-loop write-added-μ-loop
+  write-added-add-t54 c = omega (arith, c .before .before .before .before .before .loop .inv .3, c .before .before .before .before .before .before .before .before .before .before .before .before .before .before .before .pre .1 .3)
 
   write-added-same-length-2 : write-added-lts.Need-same-length-2 (write-added-calls t) (write-added-at t) write-added.Post write-added-Inv-loop write-added-μ-loop
   write-added-same-length-2 c =
@@ -327,20 +376,20 @@ module _ (t : ℕ) where
       let s = spot (c .before .before .before .before .before .before .before .before .before .before .before) (b .at) in
       rw s (inner-held b (c .before .before .before .before .before .before .before .before .before .before .set-of .ensures (c .before .before .before .before .before .before .before .before .before .before .before .before .before .before .before .before .before .before .before .args .n) u o m k (omega (arith, c .before .before .before .before .before .before .before .before .before .before .before .before .before .before .before .before .before .before .before .pre .1 .1)) (b .at) (b .own-set) (b .set)))
 
-  near-open : (c : write-both-lts.After-slice-known3 (write-both-calls t) (write-both-at t) write-both.Post) → c .before .before .put-open .result ≤ c .before .before .before .before .before .before .before .before .before .before .before .before .before .before .before .before .before .before .before .args .at + 35777
+  near-open : (c : write-both-lts.After-slice-known3 (write-both-calls t) (write-both-at t) write-both.Post) → c .before .before .put-open .result ≤ 0 + 35777
   near-open c =
       let h = c .before .before .before .before .before .before .before .before .before .before .before .before .before .before .before .before .before .before .before .pre .1 .0 .both in
       omega (arith, (rw (c .before .before .before .before .before .before .before .before .before .view-at .ensures, spot (c .before .before .before .before .before .before .before .before .before .before .before) (h .at), h .at .node .bytes-are) at (c .before .before .put-open .ensures)) .place, opening-short (h .at .node), c .before .before .before .before .before .before .open-set .ensures .1)
 
-  filled : (c : write-both-lts.After-write-added (write-both-calls t) (write-both-at t) write-both.Post) → c .write-added .result .at + 400000 ≤ c .before .before .before .before .before .before .before .before .before .before .before .before .before .before .before .before .before .before .before .before .before .args .at + 262144 * (nextAt (c .before .before .before .before .before .before .before .before .before .before .before .before .before .before .before .before .before .before .before .before .before .args .tape .now) (c .before .before .before .before .before .before .before .before .before .before .before .before .before .before .before .before .before .before .before .before .before .args .p) - c .before .before .before .before .before .before .before .before .before .before .before .before .before .before .before .before .before .before .before .before .before .args .p + (nextAt (c .before .before .before .before .before .before .before .before .before .before .before .before .before .before .before .before .before .before .before .before .before .args .vtape .now) (c .before .before .before .before .before .before .before .before .before .before .before .before .before .before .before .before .before .before .before .before .before .args .q) - c .before .before .before .before .before .before .before .before .before .before .before .before .before .before .before .before .before .before .before .before .before .args .q))
+  filled : (c : write-both-lts.After-write-added (write-both-calls t) (write-both-at t) write-both.Post) → c .write-added .result .at + 400000 ≤ 0 + 262144 * (nextAt (c .before .before .before .before .before .before .before .before .before .before .before .before .before .before .before .before .before .before .before .before .before .args .tape .now) (c .before .before .before .before .before .before .before .before .before .before .before .before .before .before .before .before .before .before .before .before .before .args .p) - c .before .before .before .before .before .before .before .before .before .before .before .before .before .before .before .before .before .before .before .before .before .args .p + (nextAt (c .before .before .before .before .before .before .before .before .before .before .before .before .before .before .before .before .before .before .before .before .before .args .vtape .now) (c .before .before .before .before .before .before .before .before .before .before .before .before .before .before .before .before .before .before .before .before .before .args .q) - c .before .before .before .before .before .before .before .before .before .before .before .before .before .before .before .before .before .before .before .before .before .args .q))
   filled c =
       let b = c .before .before .before .before .before .before .before .before .before .before .before .before .before .before .before .before .before .before .before .before .before .pre .1 .0 in
       let h = b .both in
       let f = at-forward (b .own) (h .at) in
       let x = (rw (c .before .before .before .before .before .before .before .before .before .before .before .view-at .ensures, c .before .before .before .before .before .before .before .before .before .before .view-at2 .ensures) at (c .write-added .ensures)) (b .keyList) (b .path ▸ b .name) (setIn (c .before .before .before .before .before .before .before .before .before .before .before .before .before .before .before .before .before .before .before .before .before .args .n) (b .times) (b .own)) (b .kids) (b .other) (inner (c .before .before) h) .near in
-      room-outer (c .before .before .before .before .before .before .before .before .before .before .before .before .before .before .before .before .before .before .before .before .before .args .at) (c .before .before .before .before .before .before .before .before .before .before .before .before .before .before .before .before .before .before .before .before .before .args .q) (f .0) (f .1) (h .at .ends) (tape-le (h .vinner)) (near-open (c .before .before)) (rw (spot (c .before .before .before .before .before .before .before .before .before .before .before .before .before) (h .at)) at x)
+      room-outer 0 (c .before .before .before .before .before .before .before .before .before .before .before .before .before .before .before .before .before .before .before .before .before .args .q) (f .0) (f .1) (h .at .ends) (tape-le (h .vinner)) (near-open (c .before .before)) (rw (spot (c .before .before .before .before .before .before .before .before .before .before .before .before .before) (h .at)) at x)
 
-  near-close : (c : write-both-lts.After-put-close (write-both-calls t) (write-both-at t) write-both.Post) → c .put-close .result + 300000 ≤ c .before .before .before .before .before .before .before .before .before .before .before .before .before .before .before .before .before .before .before .before .before .before .before .before .before .args .at + 262144 * (nextAt (c .before .before .before .before .before .before .before .before .before .before .before .before .before .before .before .before .before .before .before .before .before .before .before .before .before .args .tape .now) (c .before .before .before .before .before .before .before .before .before .before .before .before .before .before .before .before .before .before .before .before .before .before .before .before .before .args .p) - c .before .before .before .before .before .before .before .before .before .before .before .before .before .before .before .before .before .before .before .before .before .before .before .before .before .args .p + (nextAt (c .before .before .before .before .before .before .before .before .before .before .before .before .before .before .before .before .before .before .before .before .before .before .before .before .before .args .vtape .now) (c .before .before .before .before .before .before .before .before .before .before .before .before .before .before .before .before .before .before .before .before .before .before .before .before .before .args .q) - c .before .before .before .before .before .before .before .before .before .before .before .before .before .before .before .before .before .before .before .before .before .before .before .before .before .args .q))
+  near-close : (c : write-both-lts.After-put-close (write-both-calls t) (write-both-at t) write-both.Post) → c .put-close .result + 300000 ≤ 0 + 262144 * (nextAt (c .before .before .before .before .before .before .before .before .before .before .before .before .before .before .before .before .before .before .before .before .before .before .before .before .before .args .tape .now) (c .before .before .before .before .before .before .before .before .before .before .before .before .before .before .before .before .before .before .before .before .before .before .before .before .before .args .p) - c .before .before .before .before .before .before .before .before .before .before .before .before .before .before .before .before .before .before .before .before .before .before .before .before .before .args .p + (nextAt (c .before .before .before .before .before .before .before .before .before .before .before .before .before .before .before .before .before .before .before .before .before .before .before .before .before .args .vtape .now) (c .before .before .before .before .before .before .before .before .before .before .before .before .before .before .before .before .before .before .before .before .before .before .before .before .before .args .q) - c .before .before .before .before .before .before .before .before .before .before .before .before .before .before .before .before .before .before .before .before .before .before .before .before .before .args .q))
   near-close c =
       let h = c .before .before .before .before .before .before .before .before .before .before .before .before .before .before .before .before .before .before .before .before .before .before .before .before .before .pre .1 .0 .both in
       omega (arith, (rw (c .before .before .before .before .before .before .before .before .before .before .before .before .before .before .before .view-at .ensures, spot (c .before .before .before .before .before .before .before .before .before .before .before .before .before .before .before .before .before) (h .at), h .at .node .bytes-are) at (c .put-close .ensures)) .place, closing-short (h .at .node), filled (c .before .before .before .before))
@@ -391,7 +440,7 @@ module _ (t : ℕ) where
           c .before .before .before .before .before .before .before .before .before .before .before .before .before .before .before .before .before .before .before .before .pre .1 .1,
           rw s (omega (arith, n, c .before .before .before .before .before .before .before .before .before .before .before .before .before .before .before .before .before .before .before .before .pre .1 .2)),
           c .before .before .before .before .before .before .before .before .before .before .before .before .before .before .before .before .before .before .before .before .pre .1 .3,
-          rw s (room-inner (c .before .before .before .before .before .before .before .before .before .before .before .before .before .before .before .before .before .before .before .before .args .at) (c .before .before .before .before .before .before .before .before .before .before .before .before .before .before .before .before .before .before .before .before .args .q) (f .0) (f .1) n v j (c .before .before .before .before .before .before .before .before .before .before .before .before .before .before .before .before .before .before .before .before .pre .1 .4)),
+          rw s (room-inner 0 (c .before .before .before .before .before .before .before .before .before .before .before .before .before .before .before .before .before .before .before .before .args .q) (f .0) (f .1) n v j (omega (arith, c .before .before .before .before .before .before .before .before .before .before .before .before .before .before .before .before .before .before .before .before .pre .1 .4))),
         ),
       )
 
@@ -421,5 +470,5 @@ module _ (t : ℕ) where
 pub +write-added+write-both-spec : {M : Type 1} → statement M
 +write-added+write-both-spec =
     close μ-write-added μ-write-both
-    (λ t. write-added-lts.spec (write-added-calls t) (write-added-at t) write-added.Post write-added-Inv-loop write-added-μ-loop (write-added-is-above-requires t) (write-added-write-contents-requires t) (write-added-same-length t) (write-added-returns t) (write-added-loop-holds t) (write-added-own-place-requires t) (write-added-order-of-requires t) (write-added-view-at-requires t) (write-added-put-newest-requires t) (write-added-sub-fresh t) (write-added-add-fresh t) (write-added-loop-less t) (write-added-loop-again t) (write-added-write-old-requires t) (write-added-view-at-requires-2 t) (write-added-loop-less-2 t) (write-added-loop-again-2 t) (write-added-write-both-requires t) (write-added-view-at-requires-3 t) (write-added-view-at-requires-4 t) (write-added-add-fresh-2 t) (write-added-loop-less-3 t) (write-added-loop-again-3 t) (write-added-write-new-requires t) (write-added-sub-t44 t) (write-added-add-t45 t) (write-added-same-length-2 t) (write-added-returns-2 t))
+    (λ t. write-added-lts.spec (write-added-calls t) (write-added-at t) write-added.Post write-added-Inv-loop write-added-μ-loop (write-added-is-above-requires t) (write-added-write-contents-requires t) (write-added-same-length t) (write-added-returns t) (write-added-loop-holds t) (write-added-own-place-requires t) (write-added-order-of-requires t) (write-added-least-requires t) (write-added-view-at-requires t) (write-added-sub-put-newest t) (write-added-part-put-newest-start t) (write-added-part-put-newest-end t) (write-added-put-newest-requires t) (write-added-add-to t) (write-added-sub-fresh t) (write-added-add-fresh t) (write-added-loop-less t) (write-added-loop-again t) (write-added-sub-write-old t) (write-added-part-write-old-start t) (write-added-part-write-old-end t) (write-added-write-old-requires t) (write-added-add-to-2 t) (write-added-view-at-requires-2 t) (write-added-loop-less-2 t) (write-added-loop-again-2 t) (write-added-sub-write-both t) (write-added-part-write-both-start t) (write-added-part-write-both-end t) (write-added-write-both-requires t) (write-added-view-at-requires-3 t) (write-added-view-at-requires-4 t) (write-added-add-to-3 t) (write-added-add-fresh-2 t) (write-added-loop-less-3 t) (write-added-loop-again-3 t) (write-added-write-new-requires t) (write-added-sub-t53 t) (write-added-add-t54 t) (write-added-same-length-2 t) (write-added-returns-2 t))
     (λ t. write-both-lts.spec (write-both-calls t) (write-both-at t) write-both.Post (write-both-element-at-requires t) (write-both-set-of-requires t) (write-both-view-at-requires t) (write-both-view-at-requires-2 t) (write-both-open-set-requires t) (write-both-put-open-requires t) (write-both-add-write-added t) (write-both-add-write-added-2 t) (write-both-write-added-requires t) (write-both-put-close-requires t) (write-both-close-set-requires t) (write-both-same-length t) (write-both-returns t))

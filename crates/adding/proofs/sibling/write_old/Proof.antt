@@ -20,7 +20,7 @@ view-at-requires : tie.Need-view-at-requires
 view-at-requires c κs = front (c .before .before .before .pre .1 .tape) (c .before .before .before .pre .0) .held
 
 write-at-requires : tie.Need-write-at-requires
-write-at-requires c κs = rw (c .before .before .before .view-at .ensures) (c .before .before .before .before .before .before .before .pre .1, c .before .before .before .before .before .before .before .pre .2, omega (arith, c .before .before .before .before .before .before .before .pre .6))
+write-at-requires c κs = rw (c .before .before .before .view-at .ensures) (c .before .before .before .before .before .before .before .pre .1, c .before .before .before .before .before .before .before .pre .2, omega arith)
 
 same-length : tie.Need-same-length
 same-length c = search needs
@@ -33,7 +33,7 @@ returns c = let e = c .before .before .before .before .before .before .view-at .
     )
 
 put-within-requires : tie.Need-put-within-requires
-put-within-requires c κs = rw (c .before .before .before .view-at .ensures) (c .before .before .before .before .before .before .before .pre .3, c .before .before .before .before .before .before .before .pre .4, c .before .before .before .before .before .before .before .pre .5, c .before .before .before .before .before .before .before .pre .1, c .before .before .before .before .before .before .before .pre .2, c .before .before .before .before .before .before .before .pre .6)
+put-within-requires c κs = rw (c .before .before .before .view-at .ensures) (c .before .before .before .before .before .before .before .pre .3, c .before .before .before .before .before .before .before .pre .4, c .before .before .before .before .before .before .before .pre .5, c .before .before .before .before .before .before .before .pre .1, c .before .before .before .before .before .before .before .pre .2, omega arith)
 
 same-length-2 : tie.Need-same-length-2
 same-length-2 c = search needs

@@ -1,6 +1,6 @@
 -- `add_short` meets its contract.
 use Rattle.archive.specs.AddCall.{add-from}
-use Rattle.firmware.specs.Told.{gives-told}
+use Rattle.archive.specs.Giving.{gives-told}
 use borrow.Author.Needs.{needs}
 use Rattle.firmware.proofs.cells.add_short.Statement.{statement}
 use Rattle.firmware.proofs.cells.add_short.Tie as tie

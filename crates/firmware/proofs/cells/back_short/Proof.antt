@@ -1,6 +1,6 @@
 -- `back_short` meets its contract.
 use Rattle.archive.specs.BackCall.{back-steps}
-use Rattle.firmware.specs.Told.{gives-told}
+use Rattle.archive.specs.Giving.{gives-told}
 use borrow.Author.Needs.{needs}
 use Rattle.firmware.proofs.cells.back_short.Statement.{statement}
 use Rattle.firmware.proofs.cells.back_short.Tie as tie

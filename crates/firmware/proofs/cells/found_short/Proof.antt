@@ -1,6 +1,6 @@
 -- `found_short` meets its contract.
 use Rattle.archive.specs.FoundLaws.{founds}
-use Rattle.firmware.specs.Told.{gives-told}
+use Rattle.archive.specs.Giving.{gives-told}
 use borrow.Author.Needs.{needs}
 use Rattle.firmware.proofs.cells.found_short.Statement.{statement}
 use Rattle.firmware.proofs.cells.found_short.Tie as tie

@@ -1,6 +1,6 @@
 -- `retrieve_short` meets its contract.
 use Rattle.archive.specs.RetrieveLaws.{retrieve-steps}
-use Rattle.firmware.specs.Told.{gives-told}
+use Rattle.archive.specs.Giving.{gives-told}
 use borrow.Author.Needs.{needs}
 use Rattle.firmware.proofs.cells.retrieve_short.Statement.{statement}
 use Rattle.firmware.proofs.cells.retrieve_short.Tie as tie

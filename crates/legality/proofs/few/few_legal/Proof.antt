@@ -4,15 +4,13 @@ use Prim.Native.Nat.{_-_, _%_, _≤_}
 use native.Mathlib.Omega.{arith}
 use mathlib.Core.Path.{_≡_, refl, sym, _∙_, ap}
 use mathlib.Core.Bool.{true}
-use mathlib.Core.Bool.{true}
-use mathlib.Core.Bool.{true}
 use borrow.Author.Needs.{needs}
 use lib.ListN.{length}
 use Rattle.xml.specs.Forest.{Forest, end}
 use Rattle.xml.specs.Tape.{Tape, Valid, headAt, at-end}
 use Rattle.xml.specs.TapeLaws.{Front, bytesAt, front, split, tape-join}
 use Rattle.xml.specs.SameTapes.{not-true, not-false}
-use Rattle.timestamp.specs.Set.{setOf, none, without}
+use Rattle.timestamp.specs.Set.{setOf, emptySet, without}
 use Rattle.timestamp.specs.Listed.{Only}
 use Rattle.timestamp.specs.Parses.{text-first}
 use Rattle.timestamp.specs.TakenText.{TakesText}
@@ -24,7 +22,7 @@ use Rattle.legality.proofs.few.few_legal.Tie as tie
 
 abbrev Inv-loop : tie.InvT-loop
 Inv-loop src tape lo hi n left₀ p₀ count₀ first₀ left p count first = (count ≤ first)
-    × ((f : Forest) → Tape src tape lo hi f → Only n (setOf left₀) → Way src tape lo p hi n (setOf left₀) (without (setOf left₀) (setOf left)) first count (judged n (setOf left₀) none 0 0 end f))
+    × ((f : Forest) → Tape src tape lo hi f → Only n (setOf left₀) → Way src tape lo p hi n (setOf left₀) (without (setOf left₀) (setOf left)) first count (judged n (setOf left₀) emptySet 0 0 end f))
     × Valid src tape lo p × Valid src tape p hi × (length left ≡ 16) × Within (setOf left) (setOf left₀)
 
 abbrev μ-loop : tie.MeasureT-loop
@@ -99,11 +97,11 @@ loop-again c =
 returns-4 : tie.Need-returns-4 Inv-loop μ-loop
 returns-4 c f t o = sym (way-few (c .before .before .loop .inv .1 f t o) (c .before .loop-test .left) (c .if4 .taken))
 
-is-none-requires : tie.Need-is-none-requires Inv-loop μ-loop
-is-none-requires c κs = c .before .before .before .loop .inv .4
+is-empty-requires : tie.Need-is-empty-requires Inv-loop μ-loop
+is-empty-requires c κs = search needs
 
 returns-5 : tie.Need-returns-5 Inv-loop μ-loop
-returns-5 c f t o = c .is-none .ensures ∙ sym (all-taken _ _ (c .before .before .before .before .loop .inv .5)) ∙ sym (way-done (c .before .before .before .before .loop .inv .1 f t o) (c .before .before .before .loop-test .left) (c .before .before .if4 .left))
+returns-5 c f t o = c .is-empty .ensures ∙ sym (all-taken _ _ (c .before .before .before .loop .inv .5)) ∙ sym (way-done (c .before .before .before .loop .inv .1 f t o) (c .before .before .loop-test .left) (c .before .if4 .left))
 
 pub few-legal-spec : {M : Type 1} → statement M
 few-legal-spec =
@@ -123,5 +121,5 @@ few-legal-spec =
     loop-less
     loop-again
     returns-4
-    is-none-requires
+    is-empty-requires
     returns-5)

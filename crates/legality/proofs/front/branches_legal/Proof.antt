@@ -12,7 +12,7 @@ use Rattle.xml.specs.Forest.{Forest, end}
 use Rattle.xml.specs.Tape.{Tape, Valid, headAt, nextAt, at-end}
 use Rattle.xml.specs.TapeLaws.{Front, bytesAt, front, split, tape-join}
 use Rattle.xml.specs.SameTapes.{not-true, not-false}
-use Rattle.timestamp.specs.Set.{setOf, none, without}
+use Rattle.timestamp.specs.Set.{setOf, emptySet, without}
 use Rattle.timestamp.specs.Listed.{Only}
 use Rattle.timestamp.specs.Parses.{text-first}
 use Rattle.timestamp.specs.TakenText.{TakesText}
@@ -26,7 +26,7 @@ use Rattle.legality.proofs.front.branches_legal.Tie as tie
 abbrev Inv-loop : tie.InvT-loop
 Inv-loop src tape lo hi n left₀ p₀ count₀ first₀ marks₀ seen₀ left p count first marks seen =
     (lo ≤ p) × (count ≤ first) × (length marks ≡ 1000)
-    × ((f : Forest) → Tape src tape lo hi f → Only n (setOf left₀) → Way src tape lo p hi n (setOf left₀) (without (setOf left₀) (setOf left)) first count (judged n (setOf left₀) none 0 0 end f))
+    × ((f : Forest) → Tape src tape lo hi f → Only n (setOf left₀) → Way src tape lo p hi n (setOf left₀) (without (setOf left₀) (setOf left)) first count (judged n (setOf left₀) emptySet 0 0 end f))
     × ((d : Forest) → Tape src tape lo p d → take count marks ≡ marksOf d)
     × (length seen ≡ 256) × (all (isSeen seen) (take count marks) ≡ true)
     × Valid src tape lo p × Valid src tape p hi
@@ -147,11 +147,11 @@ loop-again c =
 returns-4 : tie.Need-returns-4 Inv-loop μ-loop
 returns-4 c f t o = sym (way-few (c .before .before .loop .inv .3 f t o) (c .before .loop-test .left) (c .if4 .taken))
 
-is-none-requires : tie.Need-is-none-requires Inv-loop μ-loop
-is-none-requires c κs = c .before .before .before .loop .inv .9
+is-empty-requires : tie.Need-is-empty-requires Inv-loop μ-loop
+is-empty-requires c κs = search needs
 
 returns-5 : tie.Need-returns-5 Inv-loop μ-loop
-returns-5 c f t o = c .is-none .ensures ∙ sym (all-taken _ _ (c .before .before .before .before .loop .inv .10)) ∙ sym (way-done (c .before .before .before .before .loop .inv .3 f t o) (c .before .before .before .loop-test .left) (c .before .before .if4 .left))
+returns-5 c f t o = c .is-empty .ensures ∙ sym (all-taken _ _ (c .before .before .before .loop .inv .10)) ∙ sym (way-done (c .before .before .before .loop .inv .3 f t o) (c .before .before .loop-test .left) (c .before .if4 .left))
 
 pub branches-legal-spec : {M : Type 1} → statement M
 branches-legal-spec =
@@ -178,5 +178,5 @@ branches-legal-spec =
     loop-less
     loop-again
     returns-4
-    is-none-requires
+    is-empty-requires
     returns-5)

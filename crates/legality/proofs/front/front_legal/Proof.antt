@@ -5,7 +5,7 @@ use Rattle.xml.specs.Forest.{Forest, end}
 use Rattle.xml.specs.Tape.{Tape}
 use Rattle.xml.specs.TapeLaws.{front}
 use Rattle.timestamp.specs.Times.{Times}
-use Rattle.timestamp.specs.Set.{setOf, none}
+use Rattle.timestamp.specs.Set.{setOf, emptySet}
 use Rattle.timestamp.specs.Listed.{Only, listed}
 use Rattle.versions.specs.Walk.{frontLegal}
 use Rattle.versions.specs.Branches.{judged}
@@ -22,7 +22,7 @@ use Rattle.xml.proofs.tape.view_at.Reads as view-at-reads
 
 -- it holds contents in their `T`s
 timed-front : (c : tie.Then2) (f : Forest) (t : Times) → Tape (c .before .before .before .before .before .before .args .src .now) (c .before .before .before .before .before .before .args .tape .now) (c .before .before .before .before .before .before .args .lo) (c .before .before .before .before .before .before .args .hi) f → Only (c .before .before .before .before .before .before .args .n) (setOf (c .before .before .before .before .before .before .args .times .words))
-    → listed (c .before .before .before .before .before .before .args .n) (setOf (c .before .before .before .before .before .before .args .times .words)) ≡ t → judged (c .before .before .before .before .before .before .args .n) (setOf (c .before .before .before .before .before .before .args .times .words)) none 0 0 end f ≡ frontLegal (c .before .before .before .before .before .before .args .n) t f
+    → listed (c .before .before .before .before .before .before .args .n) (setOf (c .before .before .before .before .before .before .args .times .words)) ≡ t → judged (c .before .before .before .before .before .before .args .n) (setOf (c .before .before .before .before .before .before .args .times .words)) emptySet 0 0 end f ≡ frontLegal (c .before .before .before .before .before .before .args .n) t f
 timed-front c f t x o e = front-timed (c .before .before .before .before .before .before .args .n) t (setOf (c .before .before .before .before .before .before .args .times .words)) (c .before .before .before .before .before .before .pre .1) o e x (c .before .before .before .if1 .left) (rw (c .before .before .view-at .ensures) at (c .if2 .taken))
 
 returns : tie.Need-returns

@@ -35,7 +35,7 @@ is-part-requires : tie.Need-is-part-requires
 is-part-requires c κs = search needs
 
 returns-2 : tie.Need-returns-2
-returns-2 c = (λ n l o. read-accepted n _ _ l o (readAs (c .is-part .result) _) (outcome-accepted (readAs (c .before .before .before .before .before .parse-at .result) _) _ (c .before .before .before .before .before .parse-at .ensures .0) (not-false _ (c .before .before .before .before .if1 .left))) (c .is-part .ensures ∙ part-stands n _ _ o), c .before .before .before .before .before .parse-at .ensures .1)
+returns-2 c = (λ n l o. read-accepted n _ _ l o (readAs (c .is-part .result) _) (outcome-accepted (readAs (c .before .before .before .parse-at .result) _) _ (c .before .before .before .parse-at .ensures .0) (not-false _ (c .before .before .if1 .left))) (c .is-part .ensures ∙ part-stands n _ _ o), c .before .before .before .parse-at .ensures .1)
 
 pub times-fit-spec : {M : Type 1} → statement M
 times-fit-spec = tie.close (tie.spec parse-at-requires returns is-part-requires returns-2)

@@ -5,14 +5,14 @@ use native.Mathlib.Omega.{arith}
 use mathlib.Core.Path.{_≡_, ap}
 use mathlib.Core.Bool.{Bool}
 use lib.ListN.{length, drop}
-use Rattle.timestamp.specs.Set.{setOf, none}
+use Rattle.timestamp.specs.Set.{setOf, emptySet}
 use Rattle.timestamp.specs.Reading.{st, steps, closeIn}
 use Rattle.timestamp.specs.RunAt.{run-none, run-fits, run-last, run-other, run-comma}
 use Rattle.timestamp.proofs.text.parse_into.Statement.{statement}
 use Rattle.timestamp.proofs.text.parse_into.Tie as tie
 
 abbrev Inv-loop : tie.InvT-loop
-Inv-loop words₀ text p₀ at₀ words p at = (at ≤ length text) × (length words ≡ 16) × (closeIn (steps (st (setOf words) p 0 0) (drop at text)) ≡ closeIn (steps (st none 0 0 0) text))
+Inv-loop words₀ text p₀ at₀ words p at = (at ≤ length text) × (length words ≡ 16) × (closeIn (steps (st (setOf words) p 0 0) (drop at text)) ≡ closeIn (steps (st emptySet 0 0 0) text))
 
 abbrev μ-loop : tie.MeasureT-loop
 μ-loop words₀ text p₀ at₀ words p at = length text - at

@@ -5,7 +5,7 @@ use native.Mathlib.Omega.{arith}
 use lib.ListN.{length, getD}
 use borrow.Author.Needs.{needs}
 use Rattle.timestamp.specs.Belongs.{inside-default}
-use Rattle.timestamp.specs.Numbers.{Onward, onward-near}
+use Rattle.timestamp.specs.Numbers.{NumberAt, number-near}
 use Rattle.timestamp.specs.RunAt.{none-past, run-alone, none-up, run-both}
 use Rattle.timestamp.proofs.text.run_at.Statement.{statement}
 use Rattle.timestamp.proofs.text.run_at.Tie as tie
@@ -23,8 +23,8 @@ long-at-requires : tie.Need-long-at-requires
 long-at-requires c κs = search needs
 
 -- the place after the first number is inside the text, with three bytes more after it
-inside : (c : tie.Else1) (n to : ℕ) → Onward (c .before .before .args .text .now) (c .before .before .args .at) 0 n to → to + 4 ≤ length (c .before .before .args .text .now)
-inside c n to o = omega (arith, onward-near o (omega arith), c .if1 .left)
+inside : (c : tie.Else1) (n to : ℕ) → NumberAt (c .before .before .args .text .now) (c .before .before .args .at) n to → to + 4 ≤ length (c .before .before .args .text .now)
+inside c n to o = omega (arith, number-near o (omega arith), c .if1 .left)
 
 -- a dash stands there
 dash : (c : tie.Else3) → getD (c .before .before .before .before .before .before .args .text .now) (c .before .before .before .long-at .result .to) 44 ≡ 45

@@ -1,10 +1,11 @@
--- `walks::back::write_back`, `back_inside` and `back_node` meet their contracts: siblings by a loop, depth by recursion. Each node has
--- 163,840 bytes of room.
+-- `walks::back::write_back`, `back_inside` and `back_node` meet their contracts: siblings by a loop, depth by recursion; a node
+-- is written into the part of the output that it is lent. Each node has 163,840 bytes of room.
 use Prim.Native.Nat.{ℕ, _+_, _*_, _-_, _%_, _<_, _≤_}
 use native.Mathlib.Omega.{arith}
 use mathlib.Core.Path.{_≡_, sym, _∙_}
 use borrow.Author.Needs.{needs}
 use Rattle.xml.specs.Forest.{Forest}
+use Rattle.xml.specs.OverLaws.{lent-back}
 use Rattle.xml.specs.Tape.{headAt, nextAt, startIn, endIn, Tape}
 use Rattle.xml.specs.TapeLaws.{Front, OneRun, bytesAt, front, one-run, tape-le}
 use Rattle.timestamp.specs.Times.{Times}
@@ -31,6 +32,7 @@ use Rattle.walks.proofs.timed.put_changed.Reads as put-changed-reads
 use Rattle.walks.proofs.back.same_cut.Reads as same-cut-reads
 use Rattle.xml.proofs.tape.is_run.Reads as is-run-reads
 use Rattle.xml.proofs.tape.view_at.Reads as view-at-reads
+use Rattle.xml.proofs.writer.least.Reads as least-reads
 use Rattle.xml.proofs.writer.put_close.Reads as put-close-reads
 use Rattle.xml.proofs.writer.put_open.Reads as put-open-reads
 use Rattle.xml.proofs.writer.put_text.Reads as put-text-reads
@@ -71,7 +73,7 @@ abbrev back-node-calls : ℕ → back-node-lts.Claims
 back-node-calls t = (view-at-reads.Asked, view-at-reads.Learnt, put-text-reads.Asked, put-text-reads.Learnt, put-open-reads.Asked, put-open-reads.Learnt, back-inside-below t, back-inside.Post, put-close-reads.Asked, put-close-reads.Learnt, cut-at-reads.Asked, cut-at-reads.Learnt, same-cut-reads.Asked, same-cut-reads.Learnt, put-changed-reads.Asked, put-changed-reads.Learnt)
 
 abbrev write-back-calls : ℕ → write-back-lts.Claims
-write-back-calls t = (back-node-below t, back-node.Post, view-at-reads.Asked, view-at-reads.Learnt)
+write-back-calls t = (least-reads.Asked, least-reads.Learnt, back-node-below t, back-node.Post, view-at-reads.Asked, view-at-reads.Learnt)
 
 abbrev write-back-Inv-loop : write-back-lts.InvT-loop
 write-back-Inv-loop src tape lo hi i a around out₀ at p₀ to₀ out p to =
@@ -89,7 +91,7 @@ module _ (t : ℕ) where
   back-inside-is-run-requires c κs = let x = c .before .before .before .pre .1 .0 .tape in (tape-le x, λ l. front x l .held)
 
   back-inside-view-at-requires : back-inside-lts.Need-view-at-requires (back-inside-calls t) (back-inside-at t) back-inside.Post
-  back-inside-view-at-requires c κs = inside-run c .node .held
+  back-inside-view-at-requires c κs = inside-run (c) .node .held
 
   back-inside-put-text-requires : back-inside-lts.Need-put-text-requires (back-inside-calls t) (back-inside-at t) back-inside.Post
   back-inside-put-text-requires c κs = rw (c .before .view-at .ensures) (omega (arith, inside-run (c .before .before) .node .within, c .before .before .before .before .before .before .before .pre .1 .3))
@@ -263,31 +265,50 @@ module _ (t : ℕ) where
   turn c = front (c .before .loop .inv .1 .tape) (c .loop-test .taken)
 
   abbrev held : (c : write-back-lts.Start (write-back-calls t) (write-back-at t) write-back.Post write-back-Inv-loop write-back-μ-loop) → Times
-  held c = timesIn (c .args .i) (cutText (c .args .src .now) (c .args .a) (c .args .around .to) (c .args .around .tail) (c .args .i))
+  held c = timesIn ((c) .args .i) (cutText ((c) .args .src .now) ((c) .args .a) ((c) .args .around .to) ((c) .args .around .tail) ((c) .args .i))
 
   write-back-loop-holds : write-back-lts.Need-loop-holds (write-back-calls t) (write-back-at t) write-back.Post write-back-Inv-loop write-back-μ-loop
   write-back-loop-holds c = (omega arith, c .before .before .before .pre .1 .0, omega arith, λ f h. going-none h)
 
+  write-back-least-requires : write-back-lts.Need-least-requires (write-back-calls t) (write-back-at t) write-back.Post write-back-Inv-loop write-back-μ-loop
+  write-back-least-requires c κs = search needs
+
+  write-back-sub-back-node : write-back-lts.Need-sub-back-node (write-back-calls t) (write-back-at t) write-back.Post write-back-Inv-loop write-back-μ-loop
+  write-back-sub-back-node c = omega (arith, c .least .ensures)
+
+  write-back-part-back-node-start : write-back-lts.Need-part-back-node-start (write-back-calls t) (write-back-at t) write-back.Post write-back-Inv-loop write-back-μ-loop
+  write-back-part-back-node-start c = omega (arith, c .least .ensures)
+
+  write-back-part-back-node-end : write-back-lts.Need-part-back-node-end (write-back-calls t) (write-back-at t) write-back.Post write-back-Inv-loop write-back-μ-loop
+  write-back-part-back-node-end c = search needs
+
   write-back-back-node-requires : write-back-lts.Need-back-node-requires (write-back-calls t) (write-back-at t) write-back.Post write-back-Inv-loop write-back-μ-loop
   write-back-back-node-requires c κs =
-      let s = turn (c .before) in
-      let j = c .before .before .loop .inv in
-      let q = c .before .before .before .before .before .before .pre in
-      (omega (arith, s .forward, s .inside, j .0, q .0), (s .forward, timely-first (j .1) (c .before .loop-test .taken), q .1 .1, q .1 .2, omega (arith, s .forward, s .inside, j .2, q .1 .3)))
+      let s = turn (c .before .before) in
+      let j = c .before .before .before .loop .inv in
+      let q = c .before .before .before .before .before .before .before .pre in
+      (omega (arith, s .forward, s .inside, j .0, q .0), (s .forward, timely-first (j .1) (c .before .before .loop-test .taken), q .1 .1, q .1 .2, omega (arith, s .forward, s .inside, j .2, q .1 .3)))
 
-  write-back-view-at-requires : write-back-lts.Need-view-at-requires (write-back-calls t) (write-back-at t) write-back.Post write-back-Inv-loop write-back-μ-loop
-  write-back-view-at-requires c κs = turn (c .before .before .before .before) .held
-
-  write-back-loop-less : write-back-lts.Need-loop-less (write-back-calls t) (write-back-at t) write-back.Post write-back-Inv-loop write-back-μ-loop
-  write-back-loop-less c = let s = turn (c .before .before .before .before .before) in rw (c .view-at .ensures) (omega (arith, s .forward, s .inside))
-
-  write-back-loop-again : write-back-lts.Need-loop-again (write-back-calls t) (write-back-at t) write-back.Post write-back-Inv-loop write-back-μ-loop
-  write-back-loop-again c =
+  write-back-add-to : write-back-lts.Need-add-to (write-back-calls t) (write-back-at t) write-back.Post write-back-Inv-loop write-back-μ-loop
+  write-back-add-to c =
       let s = turn (c .before .before .before .before .before) in
       let j = c .before .before .before .before .before .before .loop .inv in
       let x = timely-first (j .1) (c .before .before .before .before .before .loop-test .taken) in
+      omega (arith, s .forward, s .inside, j .2, c .before .before .before .before .before .before .before .before .before .before .pre .1 .3, c .before .before .back-node .ensures (x .forest) (x .tape) .place, back-length (c .before .before .before .before .before .before .before .before .before .before .args .i) (held (c .before .before .before .before .before .before .before .before .before .before)) x)
+
+  write-back-view-at-requires : write-back-lts.Need-view-at-requires (write-back-calls t) (write-back-at t) write-back.Post write-back-Inv-loop write-back-μ-loop
+  write-back-view-at-requires c κs = turn (c .before .before .before .before .before) .held
+
+  write-back-loop-less : write-back-lts.Need-loop-less (write-back-calls t) (write-back-at t) write-back.Post write-back-Inv-loop write-back-μ-loop
+  write-back-loop-less c = let s = turn (c .before .before .before .before .before .before) in rw (c .view-at .ensures) (omega (arith, s .forward, s .inside))
+
+  write-back-loop-again : write-back-lts.Need-loop-again (write-back-calls t) (write-back-at t) write-back.Post write-back-Inv-loop write-back-μ-loop
+  write-back-loop-again c =
+      let s = turn (c .before .before .before .before .before .before) in
+      let j = c .before .before .before .before .before .before .before .loop .inv in
+      let x = timely-first (j .1) (c .before .before .before .before .before .before .loop-test .taken) in
       let w = c .before .before .before .back-node .ensures in
-      rw (c .view-at .ensures) (omega (arith, s .forward, j .0), timely-rest (j .1) (c .before .before .before .before .before .loop-test .taken), omega (arith, s .forward, s .inside, j .2, w (x .forest) (x .tape) .place, back-length (c .before .before .before .before .before .before .before .before .before .before .args .i) (held (c .before .before .before .before .before .before .before .before .before .before)) x), λ f h. going-more (back-pieces (c .before .before .before .before .before .before .before .before .before .before .args .i) (held (c .before .before .before .before .before .before .before .before .before .before))) (j .3 f h) (c .before .before .before .before .before .loop-test .taken) w)
+      rw (c .view-at .ensures) (omega (arith, s .forward, j .0), timely-rest (j .1) (c .before .before .before .before .before .before .loop-test .taken), omega (arith, s .forward, s .inside, j .2, w (x .forest) (x .tape) .place, back-length (c .before .before .before .before .before .before .before .before .before .before .before .args .i) (held (c .before .before .before .before .before .before .before .before .before .before .before)) x), λ f h. going-more (back-pieces (c .before .before .before .before .before .before .before .before .before .before .before .args .i) (held (c .before .before .before .before .before .before .before .before .before .before .before))) (j .3 f h) (c .before .before .before .before .before .before .loop-test .taken) (λ g k. lent-back (c .before .before .before .before .before .before .before .loop .out) (c .before .before .before .before .before .before .before .loop .to) (c .before .before .before .before .before .least .result) (c .before .before .before .before .before .least .ensures) (w g k)))
 
   write-back-same-length : write-back-lts.Need-same-length (write-back-calls t) (write-back-at t) write-back.Post write-back-Inv-loop write-back-μ-loop
   write-back-same-length c = going-length (c .before .loop .inv .3 (c .before .before .before .before .before .pre .1 .0 .forest) (c .before .before .before .before .before .pre .1 .0 .tape))
@@ -300,4 +321,4 @@ pub +back-inside+back-node+write-back-spec : {M : Type 1} → statement M
     close μ-back-inside μ-back-node μ-write-back
     (λ t. back-inside-lts.spec (back-inside-calls t) (back-inside-at t) back-inside.Post (back-inside-is-run-requires t) (back-inside-view-at-requires t) (back-inside-put-text-requires t) (back-inside-same-length t) (back-inside-returns t) (back-inside-write-back-requires t) (back-inside-same-length-2 t) (back-inside-returns-2 t))
     (λ t. back-node-lts.spec (back-node-calls t) (back-node-at t) back-node.Post (back-node-view-at-requires t) (back-node-put-text-requires t) (back-node-same-length t) (back-node-returns t) (back-node-put-open-requires t) (back-node-add-back-inside t) (back-node-back-inside-requires t) (back-node-put-close-requires t) (back-node-same-length-2 t) (back-node-returns-2 t) (back-node-sub-cut-at t) (back-node-part-cut-at-start t) (back-node-part-cut-at-end t) (back-node-cut-at-requires t) (back-node-add-if3 t) (back-node-returns-3 t) (back-node-same-cut-requires t) (back-node-add-back-inside-2 t) (back-node-back-inside-requires-2 t) (back-node-same-length-3 t) (back-node-returns-4 t) (back-node-put-changed-requires t) (back-node-add-back-inside-3 t) (back-node-back-inside-requires-3 t) (back-node-put-close-requires-2 t) (back-node-same-length-4 t) (back-node-returns-5 t))
-    (λ t. write-back-lts.spec (write-back-calls t) (write-back-at t) write-back.Post write-back-Inv-loop write-back-μ-loop (write-back-loop-holds t) (write-back-back-node-requires t) (write-back-view-at-requires t) (write-back-loop-less t) (write-back-loop-again t) (write-back-same-length t) (write-back-returns t))
+    (λ t. write-back-lts.spec (write-back-calls t) (write-back-at t) write-back.Post write-back-Inv-loop write-back-μ-loop (write-back-loop-holds t) (write-back-least-requires t) (write-back-sub-back-node t) (write-back-part-back-node-start t) (write-back-part-back-node-end t) (write-back-back-node-requires t) (write-back-add-to t) (write-back-view-at-requires t) (write-back-loop-less t) (write-back-loop-again t) (write-back-same-length t) (write-back-returns t))

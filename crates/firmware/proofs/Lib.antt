@@ -1,0 +1,2 @@
+-- Modules that belong to no one function.
+pub mod Runs

@@ -1,0 +1,88 @@
+-- Version 1 of the record of one station with its keyed siblings in another order; and elements whose order counts.
+use Prim.Native.Nat.{ℕ}
+use native.Mathlib.Omega.{arith}
+use mathlib.Core.Path.{_≡_, refl, sym, _∙_, ap}
+use mathlib.Core.Bool.{false}
+use mathlib.Core.List.{[]}
+use lib.ListN.{getD}
+use Rattle.xml.specs.Bytes.{Bytes, bytes}
+use Rattle.xml.specs.Forest.{Forest, end, elem, text, write}
+use Rattle.xml.specs.Sound.{read-sound}
+use Rattle.keys.specs.Result.{Result, refused, ok}
+use Rattle.keys.specs.ResultLaws.{ok-inj}
+use Rattle.keys.specs.KeyList.{KeyList, keyList}
+use Rattle.keys.specs.Version.{version, version-compute}
+use Rattle.keys.specs.Alike.{swapped, moved, inside, beyond, backwards, then, AnyOrder}
+use Rattle.keys.specs.AlikeKept.{any-order}
+
+abbrev keys : Bytes
+keys = bytes "(/, (station, {}))\n(/station, (light, {}))\n(/station, (lamp, {pos}))\n(/station/lamp, (type, {}))\n(/station/lamp, (hours, {}))\n"
+
+abbrev list : Result KeyList → KeyList
+list (ok K) = K
+list (refused n) = []
+
+abbrev K : KeyList
+K = list (keyList keys)
+
+abbrev station : Forest → Forest
+station k = elem (bytes "station") k end
+
+abbrev light : Forest → Forest
+light r = elem (bytes "light") (text (bytes "Fl 5s") end) r
+
+abbrev lamp : Forest → Forest
+lamp r = elem (bytes "lamp") (elem (bytes "pos") (text (bytes "2") end) (elem (bytes "type") (text (bytes "A") end) (elem (bytes "hours") (text (bytes "40") end) end))) r
+
+-- the lamp before the light
+pub lamp-first : AnyOrder K (bytes "<station><light>Fl 5s</light><lamp><pos>2</pos><type>A</type><hours>40</hours></lamp></station>") (bytes "<station><lamp><pos>2</pos><type>A</type><hours>40</hours></lamp><light>Fl 5s</light></station>")
+unfolding version-compute
+lamp-first =
+    record {
+      first = station (light (lamp end));
+      second = station (lamp (light end));
+      first-spelled = read-sound false _ _ refl;
+      second-spelled = read-sound false _ _ refl;
+      alike = inside (swapped refl);
+    }
+
+-- with white space between them
+pub lamp-first-spaced : AnyOrder K (bytes "<station><light>Fl 5s</light>\n<lamp><pos>2</pos><type>A</type><hours>40</hours></lamp></station>") (bytes "<station><lamp><pos>2</pos><type>A</type><hours>40</hours></lamp>\n<light>Fl 5s</light></station>")
+unfolding version-compute
+lamp-first-spaced =
+    record {
+      first = station (light (text (bytes "\n") (lamp end)));
+      second = station (lamp (text (bytes "\n") (light end)));
+      first-spelled = read-sound false _ _ refl;
+      second-spelled = read-sound false _ _ refl;
+      alike = inside (then (moved refl) (then (beyond (swapped refl)) (backwards (moved refl))));
+    }
+
+-- ---- beneath a frontier elements have their order
+abbrev ab : Bytes
+ab = bytes "<station><light><a></a><b></b></light></station>"
+
+abbrev ba : Bytes
+ba = bytes "<station><light><b></b><a></a></light></station>"
+
+abbrev notes : Bytes → Bytes → Forest
+notes a b = station (elem (bytes "light") (elem a end (elem b end end)) end)
+
+keys-legal : keyList keys ≡ ok K
+unfolding version-compute
+keys-legal = refl
+
+ab-kept : version K ab ≡ ok (notes (bytes "a") (bytes "b"))
+unfolding version-compute
+ab-kept = refl
+
+ba-kept : version K ba ≡ ok (notes (bytes "b") (bytes "a"))
+unfolding version-compute
+ba-kept = refl
+
+pub other-order : AnyOrder K ab ba → ⊥
+unfolding version-compute
+other-order o =
+    let e = ok-inj (sym ab-kept ∙ any-order keys K keys-legal ab ba o ∙ ba-kept) in
+    let z : _≡_ {A = ℕ} 97 98 = ap (λ f. getD (write f) 17 0) e in
+    omega arith
