@@ -1,18 +1,19 @@
-/* The station archive: the six calls of document 01, for the monitor's firmware.
+/* The station archive: the six calls of document 01 and the three over marks of document 02 (Q-2), for the monitor's firmware.
  * Link target/staticlib/libfirmware.a (made by `rt staticlib firmware`; x86-64 Linux).
  *
  * A text is a pointer and a length in bytes, with no 0 at its end. A call returns 0, or the number of the
- * lowest row of document 01's table that applies (enum archive_number), and always writes *length:
+ * first row that applies (enum archive_number): of the rows named with the call, tried in the order 1 to 10, 17, 15,
+ * 16, 11 to 14. It always writes *length:
  * - returned 0: the result is the first *length bytes of out, the rest of out keeps its values;
- * - returned anything else: *length is 0, out is untouched.
+ * - returned anything else: *length is 0, out and marks are untouched.
  * This holds for all texts, numbers and lengths: crates/firmware/src/lib.rt states it of each entry, as equations
  * with the definitions in crates/versions/specs/Calls.antt, and it is proved.
  *
  * The caller owes what C cannot check: each pointer is to as many bytes as the length beside it says, and
- * neither out nor *length overlaps anything else that the call is lent. The texts are only read.
+ * neither out, marks, *version nor *length overlaps anything else that the call is lent. The texts are only read.
  * The calls keep no state and allocate nothing, and of C's library use memcpy and memset alone. Their work cells
  * (64 KiB) and the draft of an add (32 KiB) are on the caller's stack, of which an add takes some 123 KB at most and
- * any other call some 87 KB (measured, not proved: 122,751 and 86,015 bytes in tests/bench, with key levels and
+ * any other call some 88 KB (measured, not proved: 122,911 and 87,951 bytes in tests/bench, with key levels and
  * elements as deep as they may be).
  */
 #ifndef STATION_ARCHIVE_H
@@ -25,7 +26,7 @@
 extern "C" {
 #endif
 
-/* What a call returns: 0, or a row of document 01's table "When a text is sent back". */
+/* What a call returns: 0, or a row of document 01's table "When a text is sent back", or of document 02's (15 to 17). */
 enum archive_number {
     ARCHIVE_DONE = 0,         /* success */
     ARCHIVE_WORK = 1,         /* work under 16,384 cells: cannot be here, as each entry has cells of its own */
@@ -41,15 +42,24 @@ enum archive_number {
     ARCHIVE_VERSION = 11,     /* i not in 1 to n; or adding at n = 999 */
     ARCHIVE_ADDRESS = 12,     /* address not of this form and list */
     ARCHIVE_RESULT_LARGE = 13, /* result over 1,024 nodes or 32,768 bytes */
-    ARCHIVE_OUTPUT_SHORT = 14 /* output shorter than the result */
+    ARCHIVE_OUTPUT_SHORT = 14, /* output shorter than the result */
+    ARCHIVE_MARK_NAME = 15,   /* a mark's name illegal, already held when setting, or not held when using */
+    ARCHIVE_MARKS_FULL = 16,  /* setting when 32 marks are held */
+    ARCHIVE_MARKS_ILLEGAL = 17 /* marks not of 608 bytes, or breaking a rule of the table */
 };
 
-/* Lengths that are enough for any result, so that 14 is not returned. */
+/* Lengths that are enough for any result, so that 14 is not returned; and the length of a table of marks. */
 enum archive_length {
-    ARCHIVE_LENGTH_ARCHIVE = 32768, /* of archive_found, archive_add, archive_back */
+    ARCHIVE_LENGTH_ARCHIVE = 32768, /* of archive_found, archive_add, archive_back, archive_back_to_mark */
     ARCHIVE_LENGTH_VERSION = 16384, /* of archive_retrieve */
-    ARCHIVE_LENGTH_HISTORY = 3000   /* of archive_history: the longest text of a set of 1 to 999 has 2,591 bytes */
+    ARCHIVE_LENGTH_HISTORY = 3000,  /* of archive_history: the longest text of a set of 1 to 999 has 2,591 bytes */
+    ARCHIVE_LENGTH_MARKS = 608      /* exactly: 32 entries of 19 bytes */
 };
+
+/* A table of marks holds up to 32 names of versions, in order of setting. An entry has 19 bytes: 16 of name, one of
+ * its length, two of version, low byte first. A name has 1 to 16 letters, digits, '.', '-', '_', and no two are equal;
+ * its version is 1 to n of the archive lent with the table; bytes past a name are zero. Unused entries follow, all zero:
+ * 608 zero bytes are a table with no mark. Keep the table beside the archive, and lend both as the last call left them. */
 
 /* Checks a key list. It has no output: *length is 0. Returns 0 or 2 to 4. */
 uint32_t archive_check_keys(const uint8_t *keys, size_t keys_len, size_t *length);
@@ -72,9 +82,28 @@ uint32_t archive_retrieve(const uint8_t *keys, size_t keys_len, const uint8_t *a
 uint32_t archive_history(const uint8_t *keys, size_t keys_len, const uint8_t *archive, size_t archive_len,
                          const uint8_t *address, size_t address_len, uint8_t *out, size_t out_len, size_t *length);
 
-/* Steps back: the result is the archive of the lent archive's first i versions. Returns 0, 2 to 4, 10, 11 or 14. */
+/* Sets a mark: from here on the name stands for version i, from 1 to n. The mark is put into the first unused entry.
+ * It has no output: *length is 0. Returns 0, 2 to 4, 10, 11 or 15 to 17. */
+uint32_t archive_set_mark(const uint8_t *keys, size_t keys_len, const uint8_t *archive, size_t archive_len,
+                          uint8_t *marks, size_t marks_len, const uint8_t *name, size_t name_len,
+                          size_t i, size_t *length);
+
+/* Finds a mark: *version is its version, 0 when refused. It has no output: *length is 0. The table is only read.
+ * Returns 0, 2 to 4, 10, 15 or 17. */
+uint32_t archive_find_mark(const uint8_t *keys, size_t keys_len, const uint8_t *archive, size_t archive_len,
+                           const uint8_t *marks, size_t marks_len, const uint8_t *name, size_t name_len,
+                           size_t *version, size_t *length);
+
+/* Steps back: the result is the archive of the lent archive's first i versions; the table loses the marks of later
+ * versions and keeps the others in order. Returns 0, 2 to 4, 10, 11, 14 or 17. */
 uint32_t archive_back(const uint8_t *keys, size_t keys_len, const uint8_t *archive, size_t archive_len,
-                      size_t i, uint8_t *out, size_t out_len, size_t *length);
+                      uint8_t *marks, size_t marks_len, size_t i, uint8_t *out, size_t out_len, size_t *length);
+
+/* Steps back to the version of a mark, as archive_back does to that number; the mark itself is kept.
+ * Returns 0, 2 to 4, 10, 14, 15 or 17. */
+uint32_t archive_back_to_mark(const uint8_t *keys, size_t keys_len, const uint8_t *archive, size_t archive_len,
+                              uint8_t *marks, size_t marks_len, const uint8_t *name, size_t name_len,
+                              uint8_t *out, size_t out_len, size_t *length);
 
 #ifdef __cplusplus
 }

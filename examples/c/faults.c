@@ -6,6 +6,10 @@
 
 #define LENT const uint8_t *keys, size_t keys_len, const uint8_t *archive, size_t archive_len
 #define LENT_ON keys, keys_len, archive, archive_len
+#define MARKS uint8_t *marks, size_t marks_len
+#define MARKS_ON marks, marks_len
+#define NAME const uint8_t *name, size_t name_len
+#define NAME_ON name, name_len
 #define RESULT uint8_t *out, size_t out_len, size_t *length
 #define RESULT_ON out, out_len, length
 
@@ -25,9 +29,9 @@ uint32_t __wrap_archive_add(LENT, const uint8_t *version, size_t version_len, RE
 }
 
 /* 2: a step back that does so. */
-uint32_t __real_archive_back(LENT, size_t i, RESULT);
-uint32_t __wrap_archive_back(LENT, size_t i, RESULT) {
-    uint32_t number = __real_archive_back(LENT_ON, i, RESULT_ON);
+uint32_t __real_archive_back(LENT, MARKS, size_t i, RESULT);
+uint32_t __wrap_archive_back(LENT, MARKS, size_t i, RESULT) {
+    uint32_t number = __real_archive_back(LENT_ON, MARKS_ON, i, RESULT_ON);
     return FAULT == 2 ? hand_back(archive, archive_len, number, out, length) : number;
 }
 
@@ -61,4 +65,30 @@ uint32_t __real_archive_found(const uint8_t *keys, size_t keys_len, const uint8_
 uint32_t __wrap_archive_found(const uint8_t *keys, size_t keys_len, const uint8_t *version, size_t version_len, RESULT) {
     uint32_t number = __real_archive_found(keys, keys_len, version, version_len, RESULT_ON);
     return FAULT == 6 && number == ARCHIVE_OUTPUT_SHORT ? ARCHIVE_DONE : number;
+}
+
+/* 7: a setting that has touched the table where it refuses. */
+uint32_t __real_archive_set_mark(LENT, MARKS, NAME, size_t i, size_t *length);
+uint32_t __wrap_archive_set_mark(LENT, MARKS, NAME, size_t i, size_t *length) {
+    uint32_t number = __real_archive_set_mark(LENT_ON, MARKS_ON, NAME_ON, i, length);
+    if (FAULT == 7 && number != ARCHIVE_DONE) marks[17] = (uint8_t)i;
+    return number;
+}
+
+/* 8: a finding that answers the version of another mark, the first. */
+uint32_t __real_archive_find_mark(LENT, const uint8_t *marks, size_t marks_len, NAME, size_t *version, size_t *length);
+uint32_t __wrap_archive_find_mark(LENT, const uint8_t *marks, size_t marks_len, NAME, size_t *version, size_t *length) {
+    uint32_t number = __real_archive_find_mark(LENT_ON, MARKS_ON, NAME_ON, version, length);
+    if (FAULT == 8 && number == ARCHIVE_DONE) *version = marks[17];
+    return number;
+}
+
+/* 9: a step back by name that keeps the marks of later versions. */
+uint32_t __real_archive_back_to_mark(LENT, MARKS, NAME, RESULT);
+uint32_t __wrap_archive_back_to_mark(LENT, MARKS, NAME, RESULT) {
+    uint8_t before[ARCHIVE_LENGTH_MARKS];
+    memcpy(before, marks, sizeof before);
+    uint32_t number = __real_archive_back_to_mark(LENT_ON, MARKS_ON, NAME_ON, RESULT_ON);
+    if (FAULT == 9) memcpy(marks, before, sizeof before);
+    return number;
 }

@@ -1,5 +1,6 @@
-/* Document 01's record of one station, through the C entries: each step says what it does and what came back.
- * Exit status 1 if a number, a length, a result or the rest of an output is not what document 01 says. */
+/* Document 01's record of one station, through the C entries, and document 02's marks on it: each step says what it does
+ * and what came back. Exit status 1 if a number, a length, a version, a result, the rest of an output or the table of
+ * marks is not what the papers say. */
 #include "station_archive.h"
 
 #include <stdio.h>
@@ -38,6 +39,10 @@ static uint8_t out[ARCHIVE_LENGTH_ARCHIVE];
 static size_t length;
 static int steps, wrong;
 
+/* The table of marks, all zero at first: it holds no mark. And what the papers say it is, after each step. */
+static uint8_t marks[ARCHIVE_LENGTH_MARKS], its_marks[ARCHIVE_LENGTH_MARKS];
+enum { ENTRIES = 32, NAME_BYTES = 16, ENTRY_BYTES = 19 };
+
 enum { UNTOUCHED = 0xA5 };
 
 /* A text and its length, as the entries take them. */
@@ -58,16 +63,16 @@ static int output_is(const char *text) {
     return n == sizeof out;
 }
 
-/* Says what came back, and holds it to document 01's number and text. */
+/* Says what came back, and holds it to the papers' number, text and marks. */
 static void told(const char *step, uint32_t number, uint32_t its_number, const char *its_text) {
-    int right = number == its_number && length == strlen(its_text) && output_is(its_text);
+    int right = number == its_number && length == strlen(its_text) && output_is(its_text) && memcmp(marks, its_marks, sizeof marks) == 0;
     steps++;
     printf("%-42s %2u, length %3zu", step, (unsigned)number, length);
     if (number == ARCHIVE_DONE && length <= sizeof out) printf(": %.*s", (int)length, (const char *)out);
     putchar('\n');
     if (right) return;
     wrong++;
-    printf("  WRONG: document 01 says %u, length %zu: %s\n", (unsigned)its_number, strlen(its_text), its_text);
+    printf("  WRONG: the papers say %u, length %zu: %s\n", (unsigned)its_number, strlen(its_text), its_text);
 }
 
 /* The result becomes the archive that the next call is lent; after a refusal the archive stays as it is. */
@@ -101,10 +106,72 @@ static void history(const char *step, const char *address, const char *text) {
     told(step, archive_history(TEXT(keys), archive, archive_len, TEXT(address), out, out_len, &length), ARCHIVE_DONE, text);
 }
 
-/* The archive is not kept: each step back here is from line 3. */
+/* The archive is not kept: each step back by number here is from line 3, with a table of unused entries. */
 static void back(const char *step, size_t i, uint32_t number, const char *text) {
     size_t out_len = lend();
-    told(step, archive_back(TEXT(keys), archive, archive_len, i, out, out_len, &length), number, text);
+    told(step, archive_back(TEXT(keys), archive, archive_len, marks, sizeof marks, i, out, out_len, &length), number, text);
+}
+
+/* The table in which the papers say an entry is this mark; no name is an unused entry. */
+static void expect_mark(size_t entry, const char *name, size_t version) {
+    uint8_t *at = its_marks + entry * ENTRY_BYTES;
+    memset(at, 0, ENTRY_BYTES);
+    memcpy(at, name, strlen(name));
+    at[NAME_BYTES] = (uint8_t)strlen(name);
+    at[NAME_BYTES + 1] = (uint8_t)(version & 0xff);
+    at[NAME_BYTES + 2] = (uint8_t)(version >> 8);
+}
+
+/* Says which marks the table holds, in order of setting. */
+static void show_marks(void) {
+    for (size_t entry = 0; entry < ENTRIES; entry++) {
+        const uint8_t *at = marks + entry * ENTRY_BYTES;
+        int name_len = at[NAME_BYTES] <= NAME_BYTES ? at[NAME_BYTES] : NAME_BYTES;
+        if (name_len > 0) printf("  mark %.*s: version %d\n", name_len, (const char *)at, at[NAME_BYTES + 1] + 256 * at[NAME_BYTES + 2]);
+    }
+}
+
+static void set_mark(const char *step, const char *name, size_t i, uint32_t number) {
+    lend();
+    told(step, archive_set_mark(TEXT(keys), archive, archive_len, marks, sizeof marks, TEXT(name), i, &length), number, "");
+}
+
+static void find_mark(const char *step, const char *name, uint32_t number, size_t its_version) {
+    size_t version = SIZE_MAX;
+    lend();
+    told(step, archive_find_mark(TEXT(keys), archive, archive_len, marks, sizeof marks, TEXT(name), &version, &length), number, "");
+    printf("  version %zu\n", version);
+    if (version == its_version) return;
+    wrong++;
+    printf("  WRONG: the papers say version %zu\n", its_version);
+}
+
+static void back_to_mark(const char *step, const char *name, size_t out_len, uint32_t number, const char *text) {
+    lend();
+    uint32_t got = archive_back_to_mark(TEXT(keys), archive, archive_len, marks, sizeof marks, TEXT(name), out, out_len, &length);
+    told(step, got, number, text);
+    keep(got);
+}
+
+/* Two marks, what is refused, and back to the first: the archive is line 1 again, and the other mark is gone. */
+static void named_versions(void) {
+    const char *first = "as-commissioned", *last = "lamp-2-gone";
+    expect_mark(0, first, 1);
+    set_mark("name version 1", first, 1, ARCHIVE_DONE);
+    expect_mark(1, last, 3);
+    set_mark("name version 3", last, 3, ARCHIVE_DONE);
+    show_marks();
+    set_mark("name version 2 by a name held", first, 2, ARCHIVE_MARK_NAME);
+    set_mark("name version 4", "too-late", 4, ARCHIVE_VERSION);
+    find_mark("find the last mark", last, ARCHIVE_DONE, 3);
+    find_mark("find a name with a space in it", "as commissioned", ARCHIVE_MARK_NAME, 0);
+    back_to_mark("back by name, the output one byte short", first, strlen(line1) - 1, ARCHIVE_OUTPUT_SHORT, "");
+    expect_mark(1, "", 0);
+    back_to_mark("back by name", first, sizeof out, ARCHIVE_DONE, line1);
+    show_marks();
+    lend();
+    told("a table one byte short", archive_back(TEXT(keys), archive, archive_len, marks, sizeof marks - 1, 1, out, sizeof out, &length),
+         ARCHIVE_MARKS_ILLEGAL, "");
 }
 
 /* The key list, the same with one of its LFs missing, and an output one byte short. */
@@ -135,6 +202,7 @@ int main(void) {
     add("P8 add an empty version", "", ARCHIVE_XML, "");
     add("P9 add two lamps with pos 2", "<station><lamp><pos>2</pos></lamp><lamp><pos>2</pos></lamp></station>", ARCHIVE_SIBLINGS, "");
     add("P10 add a lamp with no pos", "<station><lamp><type>A</type></lamp></station>", ARCHIVE_KEY, "");
-    printf("%d steps, %d not as document 01 says\n", steps, wrong);
+    named_versions();
+    printf("%d steps, %d not as the papers say\n", steps, wrong);
     return wrong != 0;
 }

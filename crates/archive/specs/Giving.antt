@@ -15,7 +15,8 @@ use Rattle.keys.specs.Result.{Refusal, Result, numberOf, refused, ok, _>>=_, _>
 use Rattle.keys.specs.KeyList.{KeyList, keyList}
 use Rattle.keys.specs.Version.{version}
 use Rattle.xml.specs.Forest.{Forest}
-use Rattle.versions.specs.Calls.{Answer, answer, room, atMost, give, outAfter, workAfter}
+use Rattle.marks.specs.declared.Mark.{Mark}
+use Rattle.versions.specs.Calls.{Answer, answer, Marked, room, atMost, give, outAfter, workAfter}
 use Rattle.archive.specs.Reception.{SentBack}
 
 -- an answer and an output are what the steps give; 1 is not among them
@@ -123,6 +124,19 @@ pub record Ends (a : Answer) (out work : List ℕ) (number size : ℕ) (left cel
 
 pub ends-told : {a : Answer} {out work : List ℕ} {number size : ℕ} {left cells : List ℕ} → Ends a out work number size left cells → Told a out number size left
 ends-told e = record { number-is = e .number-is; size-is = e .size-is; out-is = e .out-is }
+
+-- likewise of a call over a table of marks, and the table at its exit
+pub record ToldMarked (m : Marked) (out : List ℕ) (number size : ℕ) (left : List ℕ) (table : List Mark) : Type 0 where
+  pub told : Told (m .answer) out number size left
+  pub table-is : table ≡ m .table
+
+pub record EndsMarked (m : Marked) (out work : List ℕ) (number size : ℕ) (left cells : List ℕ) (table : List Mark) : Type 0 where
+  pub ends : Ends (m .answer) out work number size left cells
+  pub table-is : table ≡ m .table
+
+pub marked-told : {m : Marked} {out work : List ℕ} {number size : ℕ} {left cells : List ℕ} {table : List Mark} → EndsMarked m out work number size left cells table
+    → ToldMarked m out number size left table
+marked-told e = record { told = ends-told (e .ends); table-is = e .table-is }
 
 clear-after : (a : Answer) (work : List ℕ) → eqb (a .number) 1 ≡ false → workAfter a work ≡ replicate (length work) 0
 unfolding workAfter

@@ -5,8 +5,14 @@ pub mod Founding
 pub mod FoundLaws
 pub mod OpenedLaws
 pub mod Asking
+pub mod Later
+pub mod Opening
 pub mod RetrieveLaws
 pub mod BackCall
+pub mod MarkCalls
+pub mod FewCells
+pub mod Entries
+pub mod Tables
 pub mod HistoryCall
 pub mod AddCall
 pub mod Runs

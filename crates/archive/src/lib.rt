@@ -1,9 +1,12 @@
-// The station archive: the six calls.
+// The station archive: the calls.
 pub mod add;
 pub mod back;
+pub mod by_value;
 pub mod check_keys;
 pub mod found;
 pub mod history;
+pub mod mark;
+pub mod opened;
 mod received;
 pub mod retrieve;
 

@@ -1,4 +1,4 @@
-// What the programs over the archive share: files read by name, and refusals said in document 01's words.
+// What the programs over the archive share: files read and replaced by name, and refusals said in the words of documents 01 and 02.
 use libc::STDERR_FILENO;
 ghost use Prim.Native.Nat.{_≤_};
 ghost use mathlib.Core.Path.{_≡_};
@@ -78,6 +78,79 @@ pub fn read_file(program: &[u8], name: &[u8], buf: &mut [u8]) -> Read
     read
 }
 
+// Whether there is no file of a name. The empty name is not that of a missing file: it is a wrong word.
+pub fn is_missing(name: &[u8]) -> bool {
+    if name.len() == 0 {
+        return false;
+    }
+    let fd = os::open_read(name);
+    if fd < 0 {
+        return os::errno() == libc::ENOENT;
+    }
+    libc::close(fd);
+    false
+}
+
+// Writes bytes to an open file, which all may read, and waits until they have reached its device.
+fn write_through(fd: i32, bytes: &[u8]) -> bool {
+    if !io::write_all(fd, bytes) {
+        return false;
+    }
+    if libc::fchmod(fd, 0o644) != 0 {
+        return false;
+    }
+    libc::fsync(fd) == 0
+}
+
+// The same, and closes the file.
+fn write_whole(fd: i32, bytes: &[u8]) -> bool {
+    if write_through(fd, bytes) {
+        return libc::close(fd) == 0;
+    }
+    libc::close(fd);
+    false
+}
+
+// Puts a word at a place of the text, as far as it fits, and answers the next place.
+pub fn put(text: &mut [u8], at: usize, word: &[u8]) -> usize
+    ensures { λ r. ⌜ Counts r (now (text .exit)) ⌝ }
+{
+    let mut n = within(at, text);
+    let mut i = 0;
+    while i < word.len() {
+        if text.len() <= n {
+            return n;
+        }
+        text[n] = word[i];
+        n += 1;
+        i += 1;
+    }
+    n
+}
+
+// Replaces the file of a name, or makes it. The bytes go to a new file beside it, which takes the name when they are all there:
+// whenever this is interrupted, the name is that of the old bytes or of the new ones. Where it fails, that is said and the old ones stay.
+pub fn replace_file(program: &[u8], name: &[u8], bytes: &[u8]) {
+    let mut path = io::buffer();
+    let n = put(&mut path, 0, name);
+    let end = put(&mut path, n, b".XXXXXX");
+    let new = &mut path[..end];
+    let fd = os::create_temp(new);
+    if fd < 0 {
+        say(program);
+        os::fail(name);
+        return;
+    }
+    if write_whole(fd, bytes) {
+        if os::rename(new, name) == 0 {
+            return;
+        }
+    }
+    say(program);
+    os::fail(name);
+    os::unlink(new);
+}
+
 // Says a refusal on standard error: its number and when it is returned.
 pub fn say_refusal(number: u32) {
     say(b"refused ");
@@ -103,6 +176,9 @@ pub fn say_refusal(number: u32) {
         12 => say(b": address not of this form and list\n"),
         13 => say(b": result over 1,024 nodes or 32,768 bytes\n"),
         14 => say(b": output shorter than the result\n"),
+        15 => say(b": a name illegal, already held when setting, or not held when using\n"),
+        16 => say(b": setting when 32 are held\n"),
+        17 => say(b": a lent table not of 32 entries or that breaks these rules\n"),
         _ => say(b"\n"),
     }
 }

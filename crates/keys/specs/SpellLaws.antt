@@ -23,9 +23,9 @@ off-all b (x ∷ l) e h =
     (not-so (eqb b x) (λ f. clash (ap isNameByte (sym (eqb-true b x f)) ∙ e) (not-true (isNameByte x) (and-left (not (isNameByte x)) _ h))))
     (off-all b l e (and-right (not (isNameByte x)) _ h))
 
-no-mark : (b : ℕ) → isNameByte b ≡ true → among "(){}, " b ≡ false
+no-separator : (b : ℕ) → isNameByte b ≡ true → among "(){}, " b ≡ false
 unfolding bytes-compute
-no-mark b e = off-all b (bytes "(){}, ") e refl
+no-separator b e = off-all b (bytes "(){}, ") e refl
 
 off-one : (x b : ℕ) → isNameByte x ≡ false → isNameByte b ≡ true → eqb x b ≡ false
 off-one x b h e = not-so (eqb x b) (λ f. clash e (ap isNameByte (sym (eqb-true x b f)) ∙ h))
@@ -108,15 +108,15 @@ context-words [] e = refl
 context-words (n ∷ p) e = path-words (n ∷ p) e
 
 -- ---- key names, then a separator
-names-words : (ks : List Bytes) (s : Bytes) → all isName ks ≡ true → wordsOf (among "(){}, ") no-mark (joinBy (bytes ", ") ks ++ 125 ∷ s) ≡ ks ++ wordsOf (among "(){}, ") no-mark s
+names-words : (ks : List Bytes) (s : Bytes) → all isName ks ≡ true → wordsOf (among "(){}, ") no-separator (joinBy (bytes ", ") ks ++ 125 ∷ s) ≡ ks ++ wordsOf (among "(){}, ") no-separator s
 unfolding joinBy all bytes-compute
-names-words [] s e = skip (among "(){}, ") no-mark 125 s refl
-names-words (n ∷ []) s e = word (among "(){}, ") no-mark n 125 s (name-free (among "(){}, ") no-mark n (and-left (isName n) true e)) (name-filled n (and-left (isName n) true e)) refl
+names-words [] s e = skip (among "(){}, ") no-separator 125 s refl
+names-words (n ∷ []) s e = word (among "(){}, ") no-separator n 125 s (name-free (among "(){}, ") no-separator n (and-left (isName n) true e)) (name-filled n (and-left (isName n) true e)) refl
 names-words (n ∷ m ∷ ks) s e =
     let h = and-left (isName n) (all isName (m ∷ ks)) e in
     rw (append-assoc (n ++ bytes ", ") (joinBy (bytes ", ") (m ∷ ks)) (125 ∷ s), append-assoc n (bytes ", ") (joinBy (bytes ", ") (m ∷ ks) ++ 125 ∷ s))
-    (word (among "(){}, ") no-mark n 44 (32 ∷ (joinBy (bytes ", ") (m ∷ ks) ++ 125 ∷ s)) (name-free (among "(){}, ") no-mark n h) (name-filled n h) refl
-    ∙ ap (λ z. n ∷ z) (skip (among "(){}, ") no-mark 32 (joinBy (bytes ", ") (m ∷ ks) ++ 125 ∷ s) refl ∙ names-words (m ∷ ks) s (and-right (isName n) _ e)))
+    (word (among "(){}, ") no-separator n 44 (32 ∷ (joinBy (bytes ", ") (m ∷ ks) ++ 125 ∷ s)) (name-free (among "(){}, ") no-separator n h) (name-filled n h) refl
+    ∙ ap (λ z. n ∷ z) (skip (among "(){}, ") no-separator 32 (joinBy (bytes ", ") (m ∷ ks) ++ 125 ∷ s) refl ∙ names-words (m ∷ ks) s (and-right (isName n) _ e)))
 
 -- ---- lines
 pub spelt : (k : Key) (s : Bytes) → writeKey k ++ s ≡ spell k s
@@ -130,12 +130,12 @@ line-words k d =
     let c = writeContext (k .context) in
     let j = joinBy (bytes ", ") (k .keyNames) in
     let n = k .name in
-    ap (wordsOf f no-mark) (sym (append-nil (writeKey k)) ∙ spelt k [])
-    ∙ skip f no-mark 40 (c ++ 44 ∷ 32 ∷ 40 ∷ (n ++ 44 ∷ 32 ∷ 123 ∷ (j ++ 125 ∷ 41 ∷ 41 ∷ []))) refl
-    ∙ word f no-mark c 44 (32 ∷ 40 ∷ (n ++ 44 ∷ 32 ∷ 123 ∷ (j ++ 125 ∷ 41 ∷ 41 ∷ []))) (context-free f no-mark refl (k .context) (d .context-names)) (context-filled (k .context)) refl
-    ∙ ap (λ z. c ∷ z) (skip f no-mark 32 (40 ∷ (n ++ 44 ∷ 32 ∷ 123 ∷ (j ++ 125 ∷ 41 ∷ 41 ∷ []))) refl ∙ skip f no-mark 40 (n ++ 44 ∷ 32 ∷ 123 ∷ (j ++ 125 ∷ 41 ∷ 41 ∷ [])) refl
-    ∙ word f no-mark n 44 (32 ∷ 123 ∷ (j ++ 125 ∷ 41 ∷ 41 ∷ [])) (name-free f no-mark n (d .name-named)) (name-filled n (d .name-named)) refl
-    ∙ ap (λ z. n ∷ z) (skip f no-mark 32 (123 ∷ (j ++ 125 ∷ 41 ∷ 41 ∷ [])) refl ∙ skip f no-mark 123 (j ++ 125 ∷ 41 ∷ 41 ∷ []) refl
+    ap (wordsOf f no-separator) (sym (append-nil (writeKey k)) ∙ spelt k [])
+    ∙ skip f no-separator 40 (c ++ 44 ∷ 32 ∷ 40 ∷ (n ++ 44 ∷ 32 ∷ 123 ∷ (j ++ 125 ∷ 41 ∷ 41 ∷ []))) refl
+    ∙ word f no-separator c 44 (32 ∷ 40 ∷ (n ++ 44 ∷ 32 ∷ 123 ∷ (j ++ 125 ∷ 41 ∷ 41 ∷ []))) (context-free f no-separator refl (k .context) (d .context-names)) (context-filled (k .context)) refl
+    ∙ ap (λ z. c ∷ z) (skip f no-separator 32 (40 ∷ (n ++ 44 ∷ 32 ∷ 123 ∷ (j ++ 125 ∷ 41 ∷ 41 ∷ []))) refl ∙ skip f no-separator 40 (n ++ 44 ∷ 32 ∷ 123 ∷ (j ++ 125 ∷ 41 ∷ 41 ∷ [])) refl
+    ∙ word f no-separator n 44 (32 ∷ 123 ∷ (j ++ 125 ∷ 41 ∷ 41 ∷ [])) (name-free f no-separator n (d .name-named)) (name-filled n (d .name-named)) refl
+    ∙ ap (λ z. n ∷ z) (skip f no-separator 32 (123 ∷ (j ++ 125 ∷ 41 ∷ 41 ∷ [])) refl ∙ skip f no-separator 123 (j ++ 125 ∷ 41 ∷ 41 ∷ []) refl
     ∙ names-words (k .keyNames) (41 ∷ 41 ∷ []) (d .key-named) ∙ append-nil (k .keyNames)))
 
 -- the key of a line is the one that it is written from

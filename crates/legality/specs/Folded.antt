@@ -1,4 +1,4 @@
--- Bytes folded into a mark: byte by byte, and sixteen at once by weights.
+-- Bytes folded into a hash: byte by byte, and sixteen at once by weights.
 use Prim.Native.Nat.{ℕ, _+_, _-_, _*_, _/_, _%_, _^_, _≤_, _<_}
 use native.Mathlib.Nat.{div-add-mod', mul-add-mod-self-right, mul-le-mul}
 use native.Mathlib.Omega.{arith}
@@ -10,7 +10,7 @@ use Rattle.xml.specs.Bytes.{Bytes}
 use Rattle.xml.specs.Read.{unescape}
 use Rattle.xml.specs.SignLaws.{Running, slice-first}
 use Rattle.xml.specs.WriteLaws.{slice-split}
-use Rattle.versions.specs.Marks.{mixed, folded}
+use Rattle.versions.specs.Hashes.{mixed, folded}
 
 -- the sum of the four bytes from i on, each times its weight
 unfoldable pub weighed : Bytes → ℕ → ℕ → ℕ → ℕ → ℕ → ℕ

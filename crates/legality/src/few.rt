@@ -1,4 +1,4 @@
-// A frontier with a few contents: they are compared two by two, with no marks.
+// A frontier with a few contents: they are compared two by two, with no hashes.
 use crate::front::is_untimed;
 use crate::times::take_at;
 use timestamp::Timestamp;

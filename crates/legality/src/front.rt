@@ -1,7 +1,7 @@
 // What a frontier holds: one content, or two or more that share its versions.
 use crate::few::are_few;
 use crate::few::few_legal;
-use crate::mark::mark;
+use crate::hash::hash;
 use crate::times::take_at;
 use timestamp::Timestamp;
 use xml::compare::same_bytes;
@@ -21,7 +21,7 @@ ghost use Rattle.timestamp.specs.Listed.{listed, Only};
 ghost use Rattle.versions.specs.Walk.{frontLegal};
 ghost use Rattle.versions.specs.Untimed.{timedNode};
 ghost use Rattle.versions.specs.Branches.{repeats, judged};
-ghost use Rattle.versions.specs.Marks.{MarkOf, Notes};
+ghost use Rattle.versions.specs.Hashes.{HashOf, Notes};
 ghost use Rattle.legality.specs.Seen.{isSeen, Seen};
 
 // A node of this kind, named by src[a..e], is a `T` or an element with that name.
@@ -54,28 +54,28 @@ pub fn is_untimed(src: &[u8], tape: &[u32], lo: usize, hi: usize) -> bool
     true
 }
 
-// The nodes a to e, with the mark m, are the nodes lo to hi, with the mark x.
+// The nodes a to e, with the hash h, are the nodes lo to hi, with the hash x.
 fn same_content(
     src: &[u8],
     tape: &[u32],
     a: usize,
     e: usize,
-    m: u16,
+    h: u16,
     lo: usize,
     hi: usize,
     x: u16,
 ) -> bool
-    requires { ⌜ Valid (now src) (now tape) a e × Valid (now src) (now tape) lo hi × MarkOf (now src) (now tape) a e m × MarkOf (now src) (now tape) lo hi x ⌝ }
+    requires { ⌜ Valid (now src) (now tape) a e × Valid (now src) (now tape) lo hi × HashOf (now src) (now tape) a e h × HashOf (now src) (now tape) lo hi x ⌝ }
     ensures { λ r. ⌜ ((k g : Forest) → Tape (now (src .entry)) (now (tape .entry)) a e k → Tape (now (src .entry)) (now (tape .entry)) lo hi g
         → r ≡ sameForest k g) ⌝ }
 {
-    if x != m {
+    if x != h {
         return false;
     }
     same_nodes(src, tape, a, e, src, tape, lo, hi)
 }
 
-// The nodes a to e, with the mark m, are what one of the nodes lo to hi holds; the marks of what those hold are the first of `marks`.
+// The nodes a to e, with the hash h, are what one of the nodes lo to hi holds; the hashes of what those hold are the first of `hashes`.
 fn is_repeated(
     src: &[u8],
     tape: &[u32],
@@ -83,11 +83,11 @@ fn is_repeated(
     hi: usize,
     a: usize,
     e: usize,
-    marks: &[u16],
-    m: u16,
+    hashes: &[u16],
+    h: u16,
 ) -> bool
-    requires { ⌜ Valid (now src) (now tape) lo hi × Valid (now src) (now tape) a e × MarkOf (now src) (now tape) a e m
-        × Notes (now src) (now tape) lo hi (now marks) 0 ⌝ }
+    requires { ⌜ Valid (now src) (now tape) lo hi × Valid (now src) (now tape) a e × HashOf (now src) (now tape) a e h
+        × Notes (now src) (now tape) lo hi (now hashes) 0 ⌝ }
     ensures { λ r. ⌜ ((d k : Forest) → Tape (now (src .entry)) (now (tape .entry)) lo hi d → Tape (now (src .entry)) (now (tape .entry)) a e k
         → r ≡ repeats k d) ⌝ }
 {
@@ -95,8 +95,8 @@ fn is_repeated(
     let mut j = 0usize;
     while p < hi {
         let v = view_at(tape, p);
-        let x = marks[j];
-        if same_content(src, tape, a, e, m, p + 1, v.next, x) {
+        let x = hashes[j];
+        if same_content(src, tape, a, e, h, p + 1, v.next, x) {
             return true;
         }
         p = v.next;
@@ -105,25 +105,25 @@ fn is_repeated(
     false
 }
 
-// The bit of the mark m is set in the table `seen`, which has one for each remainder of a mark by 16,384.
-fn is_marked(seen: &[u64; 256], m: u16) -> bool
-    ensures { λ r. ⌜ r ≡ isSeen (now (seen .entry)) m ⌝ }
+// The bit of the hash h is set in the table `seen`, which has one for each remainder of a hash by 16,384.
+fn is_seen(seen: &[u64; 256], h: u16) -> bool
+    ensures { λ r. ⌜ r ≡ isSeen (now (seen .entry)) h ⌝ }
 {
-    let v = (m % 16384) as usize;
+    let v = (h % 16384) as usize;
     (seen[v / 64] >> (v % 64)) % 2 == 1
 }
 
-// Sets the bit of the mark m in the table.
-fn set_mark(seen: &mut [u64; 256], m: u16)
+// Sets the bit of the hash h in the table.
+fn set_seen(seen: &mut [u64; 256], h: u16)
     requires { ⌜ length (now seen) ≡ 256 ⌝ }
-    ensures { λ r. ⌜ (setOf (now (seen .exit)) ≡ adding (m % 16384) (setOf (now (seen .entry)))) × (length (now (seen .exit)) ≡ 256) ⌝ }
+    ensures { λ r. ⌜ (setOf (now (seen .exit)) ≡ adding (h % 16384) (setOf (now (seen .entry)))) × (length (now (seen .exit)) ≡ 256) ⌝ }
 {
-    let v = (m % 16384) as usize;
+    let v = (h % 16384) as usize;
     let k = v / 64;
     seen[k] = (1u64 << (v % 64)) | seen[k];
 }
 
-// The nodes a to e, with the mark m, have no `T`, and none of the nodes lo to hi holds the same; the marks of what those hold are set in `seen`.
+// The nodes a to e, with the hash h, have no `T`, and none of the nodes lo to hi holds the same; the hashes of what those hold are set in `seen`.
 fn content_legal(
     src: &[u8],
     tape: &[u32],
@@ -131,22 +131,22 @@ fn content_legal(
     hi: usize,
     a: usize,
     e: usize,
-    marks: &[u16],
+    hashes: &[u16],
     seen: &[u64; 256],
-    m: u16,
+    h: u16,
 ) -> bool
-    requires { ⌜ Valid (now src) (now tape) lo hi × Valid (now src) (now tape) a e × MarkOf (now src) (now tape) a e m
-        × Notes (now src) (now tape) lo hi (now marks) 0 × Seen (now src) (now tape) lo hi (now seen) ⌝ }
+    requires { ⌜ Valid (now src) (now tape) lo hi × Valid (now src) (now tape) a e × HashOf (now src) (now tape) a e h
+        × Notes (now src) (now tape) lo hi (now hashes) 0 × Seen (now src) (now tape) lo hi (now seen) ⌝ }
     ensures { λ r. ⌜ ((d k : Forest) → Tape (now (src .entry)) (now (tape .entry)) lo hi d → Tape (now (src .entry)) (now (tape .entry)) a e k
         → r ≡ (untimed k && not (repeats k d))) ⌝ }
 {
     if !is_untimed(src, tape, a, e) {
         return false;
     }
-    if !is_marked(seen, m) {
+    if !is_seen(seen, h) {
         return true;
     }
-    !is_repeated(src, tape, lo, hi, a, e, marks, m)
+    !is_repeated(src, tape, lo, hi, a, e, hashes, h)
 }
 
 // The nodes lo to hi are two or more contents, each in a `T`, that share the versions `times`: each takes its own from those that are left.
@@ -166,7 +166,7 @@ fn branches_legal(
     let mut p = lo;
     let mut count = 0usize;
     let mut first = 0usize;
-    let mut marks = [0u16; 1000];
+    let mut hashes = [0u16; 1000];
     let mut seen = [0u64; 256];
     while p < hi {
         let v = view_at(tape, p);
@@ -177,12 +177,12 @@ fn branches_legal(
         if start <= first {
             return false;
         }
-        let m = mark(src, tape, p + 1, v.next) as u16;
-        if !content_legal(src, tape, lo, p, p + 1, v.next, &marks, &seen, m) {
+        let h = hash(src, tape, p + 1, v.next) as u16;
+        if !content_legal(src, tape, lo, p, p + 1, v.next, &hashes, &seen, h) {
             return false;
         }
-        marks[count] = m;
-        set_mark(&mut seen, m);
+        hashes[count] = h;
+        set_seen(&mut seen, h);
         first = start;
         count += 1;
         p = v.next;

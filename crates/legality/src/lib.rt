@@ -2,8 +2,8 @@
 mod bounds;
 mod few;
 pub mod front;
+pub mod hash;
 pub mod legal;
-pub mod mark;
 pub mod open;
 pub mod sizes;
 pub mod times;

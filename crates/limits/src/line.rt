@@ -2,6 +2,8 @@
 use archive::Answer;
 use files::within;
 use libc::STDOUT_FILENO;
+use marks::Table;
+use marks::bytes::put_table;
 ghost use Prim.Native.Nat.{_<_};
 
 // Writes to standard output.
@@ -39,7 +41,7 @@ fn checksum(bytes: &[u8]) -> u64 {
 }
 
 // A case's name, the number, the length and, of a result, its bytes or, where they are over 120, their checksum.
-pub fn line(name: &[u8], answer: Answer, out: &[u8]) {
+fn case(name: &[u8], answer: Answer, out: &[u8]) {
     say(name);
     say(b": ");
     io::print_decimal(STDOUT_FILENO, answer.number as u64);
@@ -53,5 +55,28 @@ pub fn line(name: &[u8], answer: Answer, out: &[u8]) {
         say(b" ");
         say(&out[..n]);
     }
+}
+
+// The line of a call over no table.
+pub fn line(name: &[u8], answer: Answer, out: &[u8]) {
+    case(name, answer, out);
+    say(b"\n");
+}
+
+// The line of a call that leaves a table: its checksum too.
+pub fn table_line(name: &[u8], answer: Answer, t: Table, out: &[u8]) {
+    let mut bytes = [0u8; 608];
+    put_table(t, &mut bytes);
+    case(name, answer, out);
+    say(b" table ");
+    io::print_hex(STDOUT_FILENO, checksum(&bytes), 8);
+    say(b"\n");
+}
+
+// The line of a call that finds a version.
+pub fn version_line(name: &[u8], answer: Answer, version: usize) {
+    case(name, answer, b"");
+    say(b" version ");
+    io::print_decimal(STDOUT_FILENO, version as u64);
     say(b"\n");
 }

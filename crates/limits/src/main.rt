@@ -1,6 +1,7 @@
-// Document 01's limits and each refusal, run. The second implementation (tests/reference, src/bin/limits.rs) runs the same cases: its lines are the stored ones.
+// The limits of documents 01 and 02 and each refusal, run. The second implementation (tests/reference, src/bin/limits.rs) runs the same cases: its lines are the stored ones.
 mod calls;
 mod line;
+mod mark;
 mod output;
 mod refusal;
 mod size;
@@ -30,4 +31,5 @@ fn main() {
     limit(keys, &mut text, &mut a, &mut b, &mut work);
     refuse(keys, &mut text, &mut a, &mut work);
     size::archive_nodes(keys, &mut text, &mut a, &mut b, &mut work);
+    mark::marks(keys, &mut a, &mut work);
 }

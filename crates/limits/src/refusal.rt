@@ -1,4 +1,4 @@
-// Each refusal once; 13 is in `size`.
+// Each refusal once; 13 is in `size`, 15 to 17 are in `mark`.
 use crate::calls::checks;
 use crate::calls::founds;
 use crate::calls::gives_history;

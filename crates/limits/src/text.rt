@@ -1,22 +1,6 @@
 // Texts made of repeated words.
+use files::put;
 ghost use Rattle.io.specs.Counts.{Counts};
-
-// Puts a word at a place of the text, as far as it fits, and answers the next place.
-pub fn put(text: &mut [u8], at: usize, word: &[u8]) -> usize
-    ensures { λ r. ⌜ Counts r (now (text .exit)) ⌝ }
-{
-    let mut n = files::within(at, text);
-    let mut i = 0;
-    while i < word.len() {
-        if text.len() <= n {
-            return n;
-        }
-        text[n] = word[i];
-        n += 1;
-        i += 1;
-    }
-    n
-}
 
 // Puts a word so many times.
 pub fn put_times(text: &mut [u8], at: usize, word: &[u8], count: usize) -> usize

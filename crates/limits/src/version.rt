@@ -3,6 +3,7 @@ use crate::calls::adds;
 use crate::calls::gives_history;
 use crate::calls::retrieves;
 use crate::calls::steps_back;
+use crate::mark::last_marks;
 use archive::add::add_version;
 use archive::found::found;
 use files::within;
@@ -55,6 +56,7 @@ fn last(keys: &[u8], archive: &[u8], out: &mut [u8], work: &mut [u32]) {
     last_versions(keys, archive, out, work);
     last_histories(keys, archive, out, work);
     last_backs(keys, archive, out, work);
+    last_marks(keys, archive, out, work);
 }
 
 // Version 1,000 (11), and what the archive of 999 gives.

@@ -1,4 +1,4 @@
--- The call that an order asks for.
+-- The call without a table that an order asks for.
 use Prim.Native.Nat.{ℕ}
 use mathlib.Core.Path.{_≡_, refl, sym, _∙_, ap, subst}
 use mathlib.Core.List.{List, [], _++_}
@@ -6,21 +6,19 @@ use lib.ListN.{length, drop}
 use Rattle.xml.specs.Bytes.{Bytes}
 use Rattle.keys.specs.Result.{Result, refused, ok, _>>=_, _>>_}
 use Rattle.keys.specs.KeyList.{keyList}
-use Rattle.versions.specs.Calls.{Answer, answer, room, atMost, checkKeys, found, add, retrieve, history, stepBack, outAfter}
+use Rattle.versions.specs.Calls.{Answer, answer, room, atMost, checkKeys, found, add, retrieve, history, outAfter}
 use Rattle.archive.specs.CheckLaws.{Checks}
 use Rattle.archive.specs.Giving.{Ends}
-use Rattle.station.specs.declared.words.Order.{Order}
-use Rattle.station.specs.declared.words.Order.the-variants.{Check, Found, Add, Retrieve, History, Back, Unknown}
+use Rattle.station.specs.declared.words.Call.{Call}
+use Rattle.station.specs.declared.words.Call.the-variants.{Check, Found, Add, Retrieve, History}
 
--- the answer of each order's call, with an output of `out` bytes and `work` cells
-abbrev pub asked : Order → (keys archive text : List ℕ) (i out work : ℕ) → Answer
+-- the answer of each call, with an output of `out` bytes and `work` cells
+abbrev pub asked : Call → (keys archive text : List ℕ) (i out work : ℕ) → Answer
 asked Check keys archive text i out work = checkKeys keys work
 asked Found keys archive text i out work = found keys text out work
 asked Add keys archive text i out work = add keys text archive out work
 asked Retrieve keys archive text i out work = retrieve keys archive i out work
 asked History keys archive text i out work = history keys archive text out work
-asked Back keys archive text i out work = stepBack keys archive i out work
-asked Unknown keys archive text i out work = checkKeys keys work
 
 -- ---- checking a key list gives no bytes
 quiet-then : (r : Result (Unit {0})) (x : Result Bytes) → answer x .bytes ≡ [] → answer (r >> x) .bytes ≡ []
@@ -44,9 +42,9 @@ check-ends keys out work c =
     let q = check-quiet keys (length work) in
     record { number-is = c .0; size-is = c .1 ∙ ap length (sym q); out-is = subst (λ s. out ≡ s ++ drop (length s) out) (sym q) refl; work-is = c .2 }
 
--- an order that is known
+-- a call that is known
 module _ (keys archive text : List ℕ) (i : ℕ) (out work : List ℕ) where
-  pub asks : {o o′ : Order} {number size : ℕ} {left cells : List ℕ} → o ≡ o′ → Ends (asked o′ keys archive text i (length out) (length work)) out work number size left cells
+  pub asks : {o o′ : Call} {number size : ℕ} {left cells : List ℕ} → o ≡ o′ → Ends (asked o′ keys archive text i (length out) (length work)) out work number size left cells
       → Ends (asked o keys archive text i (length out) (length work)) out work number size left cells
   asks {number = number} {size = size} {left = left} {cells = cells} e x =
       subst (λ q. Ends (asked q keys archive text i (length out) (length work)) out work number size left cells) (sym e) x

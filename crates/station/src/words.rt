@@ -5,16 +5,31 @@ use check::same;
 use files::Read;
 use files::read_file;
 use files::say;
+ghost use Prim.Native.Nat.{_≤_};
 ghost use Rattle.io.specs.Counts.{Counts};
 
-// What the first word asks for.
-pub enum Order {
+// A call that takes no table of marks.
+pub enum Call {
     Check,
     Found,
     Add,
     Retrieve,
     History,
+}
+
+// What is asked over a table of marks: one of the calls, or the list of its marks.
+pub enum MarkCall {
+    Set,
+    Find,
+    List,
     Back,
+    BackToMark,
+}
+
+// What the first word asks for.
+pub enum Order {
+    Plain(Call),
+    Marked(MarkCall),
     Unknown,
 }
 
@@ -25,35 +40,70 @@ pub fn usage() {
     say(b"       station add KEYS ARCHIVE VERSION\n");
     say(b"       station retrieve KEYS ARCHIVE I\n");
     say(b"       station history KEYS ARCHIVE ADDRESS\n");
-    say(b"       station back KEYS ARCHIVE I\n");
+    say(b"       station mark KEYS ARCHIVE MARKS NAME I\n");
+    say(b"       station find KEYS ARCHIVE MARKS NAME\n");
+    say(b"       station marks KEYS ARCHIVE MARKS\n");
+    say(b"       station back KEYS ARCHIVE MARKS I\n");
+    say(b"       station back KEYS ARCHIVE MARKS @NAME\n");
 }
 
-// The order that a first word gives, of so many words in all, the program's name among them.
-fn order_of(word: &[u8], count: usize) -> Order {
+// The call without a table that a first word gives, of so many words in all, the program's name among them.
+fn plain_order(word: &[u8], count: usize) -> Order {
     if count == 3 {
         if same(word, b"check") {
-            return Order::Check;
+            return Order::Plain(Call::Check);
         }
     }
     if count == 4 {
         if same(word, b"found") {
-            return Order::Found;
+            return Order::Plain(Call::Found);
         }
     }
     if count != 5 {
         return Order::Unknown;
     }
     if same(word, b"add") {
-        return Order::Add;
+        return Order::Plain(Call::Add);
     }
     if same(word, b"retrieve") {
-        return Order::Retrieve;
+        return Order::Plain(Call::Retrieve);
     }
     if same(word, b"history") {
-        return Order::History;
+        return Order::Plain(Call::History);
+    }
+    Order::Unknown
+}
+
+// A step back, to a version's number or, where the last word starts with `@`, to the mark whose name follows.
+fn back_order() -> Order {
+    let mut word = [0u8; 1];
+    os::arg(5, &mut word);
+    if word[0] == b'@' {
+        return Order::Marked(MarkCall::BackToMark);
+    }
+    Order::Marked(MarkCall::Back)
+}
+
+// What a first word asks over a table.
+fn marked_order(word: &[u8], count: usize) -> Order {
+    if count == 5 {
+        if same(word, b"marks") {
+            return Order::Marked(MarkCall::List);
+        }
+    }
+    if count == 7 {
+        if same(word, b"mark") {
+            return Order::Marked(MarkCall::Set);
+        }
+    }
+    if count != 6 {
+        return Order::Unknown;
+    }
+    if same(word, b"find") {
+        return Order::Marked(MarkCall::Find);
     }
     if same(word, b"back") {
-        return Order::Back;
+        return back_order();
     }
     Order::Unknown
 }
@@ -62,7 +112,11 @@ fn order_of(word: &[u8], count: usize) -> Order {
 pub fn order_word() -> Order {
     let mut word = [0u8; 16];
     let n = os::arg(1, &mut word);
-    order_of(&word[..n], os::arg_count())
+    let count = os::arg_count();
+    match plain_order(&word[..n], count) {
+        Order::Unknown => marked_order(&word[..n], count),
+        order => order,
+    }
 }
 
 // Reads the file that word i names, as far as buf goes; says why where it can't be read.
@@ -81,15 +135,14 @@ pub fn file_word(i: usize, buf: &mut [u8]) -> Read
     read_file(b"station: ", &name[..n], buf)
 }
 
-// Reads the archive, of an order that takes one.
-pub fn archive_word(order: Order, buf: &mut [u8]) -> Read
+// Reads the archive, of a call that takes one.
+pub fn archive_word(call: Call, buf: &mut [u8]) -> Read
     ensures { λ r. ⌜ Counts (r .length) (now (buf .exit)) ⌝ }
 {
-    match order {
-        Order::Add => file_word(3, buf),
-        Order::Retrieve => file_word(3, buf),
-        Order::History => file_word(3, buf),
-        Order::Back => file_word(3, buf),
+    match call {
+        Call::Add => file_word(3, buf),
+        Call::Retrieve => file_word(3, buf),
+        Call::History => file_word(3, buf),
         _ => Read {
             done: true,
             length: 0,
@@ -97,8 +150,8 @@ pub fn archive_word(order: Order, buf: &mut [u8]) -> Read
     }
 }
 
-// The address, word i; of one that is longer than buf, its first bytes.
-fn address_word(i: usize, buf: &mut [u8]) -> Read
+// Word i itself, an address or the name of a mark; of one that is longer than buf, its first bytes.
+fn word_at(i: usize, buf: &mut [u8]) -> Read
     ensures { λ r. ⌜ Counts (r .length) (now (buf .exit)) ⌝ }
 {
     let n = os::arg(i, buf);
@@ -114,18 +167,46 @@ fn address_word(i: usize, buf: &mut [u8]) -> Read
     }
 }
 
-// The version or the address, of an order that takes one.
-pub fn text_word(order: Order, buf: &mut [u8]) -> Read
+// The version or the address, of a call that takes one.
+pub fn text_word(call: Call, buf: &mut [u8]) -> Read
     ensures { λ r. ⌜ Counts (r .length) (now (buf .exit)) ⌝ }
 {
-    match order {
-        Order::Found => file_word(3, buf),
-        Order::Add => file_word(4, buf),
-        Order::History => address_word(4, buf),
+    match call {
+        Call::Found => file_word(3, buf),
+        Call::Add => file_word(4, buf),
+        Call::History => word_at(4, buf),
         _ => Read {
             done: true,
             length: 0,
         },
+    }
+}
+
+// The name of a mark, after its `@` where it has one, of what takes one.
+pub fn name_word(call: MarkCall, buf: &mut [u8]) -> Read
+    ensures { λ r. ⌜ Counts (r .length) (now (buf .exit)) ⌝ }
+{
+    match call {
+        MarkCall::Set => word_at(5, buf),
+        MarkCall::Find => word_at(5, buf),
+        MarkCall::BackToMark => word_at(5, buf),
+        _ => Read {
+            done: true,
+            length: 0,
+        },
+    }
+}
+
+// Where the name starts in a word of n bytes: after its `@`, where it has one.
+pub fn name_start(call: MarkCall, n: usize) -> usize
+    ensures { λ r. ⌜ r ≤ n ⌝ }
+{
+    if n == 0 {
+        return 0;
+    }
+    match call {
+        MarkCall::BackToMark => 1,
+        _ => 0,
     }
 }
 
@@ -142,11 +223,22 @@ fn number_word(i: usize) -> Numeral {
     got
 }
 
-// The version's number, of an order that takes one; 0 of others.
-pub fn index_word(order: Order) -> Numeral {
-    match order {
-        Order::Retrieve => number_word(4),
-        Order::Back => number_word(4),
+// The version's number, of a call that takes one; 0 of others.
+pub fn index_word(call: Call) -> Numeral {
+    match call {
+        Call::Retrieve => number_word(4),
+        _ => Numeral {
+            valid: true,
+            value: 0,
+        },
+    }
+}
+
+// The same, over a table.
+pub fn marked_index_word(call: MarkCall) -> Numeral {
+    match call {
+        MarkCall::Set => number_word(6),
+        MarkCall::Back => number_word(5),
         _ => Numeral {
             valid: true,
             value: 0,

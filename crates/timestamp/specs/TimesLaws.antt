@@ -216,9 +216,9 @@ unfolding all
 all-weaker P Q f [] h = refl
 all-weaker P Q f (b ∷ s) h = and-both (Q b) (all Q s) (f b (and-left (P b) (all P s) h)) (all-weaker P Q f s (and-right (P b) (all P s) h))
 
-mark-times : (all isTimes (bytes "-") ≡ true) × (all isTimes (bytes ",") ≡ true)
+punctuation-times : (all isTimes (bytes "-") ≡ true) × (all isTimes (bytes ",") ≡ true)
 unfolding bytes-compute
-mark-times = (refl, refl)
+punctuation-times = (refl, refl)
 
 decimal-bytes : (n : ℕ) → 1 ≤ n → n ≤ 999 → all isTimes (decimal n) ≡ true
 decimal-bytes n l u = all-weaker isDigit isTimes digit-times (decimal n) (digits n l u)
@@ -229,7 +229,7 @@ run-bytes a b l m u =
     let h : all isTimes (decimal a) ≡ true = decimal-bytes a l (omega arith) in
     bool-by (λ x. all isTimes (elim x as (λ _. Bytes) [ true ↦ decimal a | false ↦ decimal a ++ bytes "-" ++ decimal b ]) ≡ true) (eqb a b)
     (λ _. h)
-    (λ _. all-append isTimes (decimal a ++ bytes "-") (decimal b) (all-append isTimes (decimal a) (bytes "-") h (mark-times .0)) (decimal-bytes b (omega arith) u))
+    (λ _. all-append isTimes (decimal a ++ bytes "-") (decimal b) (all-append isTimes (decimal a) (bytes "-") h (punctuation-times .0)) (decimal-bytes b (omega arith) u))
 
 runs-bytes : (rs : List (ℕ × ℕ)) → Within 1 rs → all isTimes (joinBy (bytes ",") (map writeRun rs)) ≡ true
 unfolding all joinBy
@@ -237,7 +237,7 @@ runs-bytes [] h = refl
 runs-bytes (r ∷ []) h = run-bytes (r .0) (r .1) (h .0) (h .1) (h .2)
 runs-bytes (r ∷ q ∷ rs) h =
     all-append isTimes (writeRun r ++ bytes ",") (joinBy (bytes ",") (map writeRun (q ∷ rs)))
-    (all-append isTimes (writeRun r) (bytes ",") (run-bytes (r .0) (r .1) (h .0) (h .1) (h .2)) (mark-times .1))
+    (all-append isTimes (writeRun r) (bytes ",") (run-bytes (r .0) (r .1) (h .0) (h .1) (h .2)) (punctuation-times .1))
     (runs-bytes (q ∷ rs) (h .3))
 
 pub times-bytes : (t : Times) → length t ≤ 999 → all isTimes (writeTimes t) ≡ true

@@ -1,17 +1,18 @@
--- The six calls: what each answers, for all inputs. A call is lent texts, an output of `out` bytes and `work` cells.
+-- The calls: what each answers, for all inputs. A call is lent texts, a table of marks (Q-2), an output of `out` bytes and `work` cells.
 use Prim.Native.Nat.{ℕ, zero, suc, _+_, _-_}
-use mathlib.Core.Path.{_≡_, refl}
-use mathlib.Core.Bool.{Bool, true, false, not, _&&_, _||_}
+use mathlib.Core.Bool.{true, false, not, _&&_, _||_}
 use mathlib.Core.List.{List, [], _∷_, _++_, map}
 use lib.Dec.{eqb, leb, ltb}
 use lib.ListN.{length, take, drop, getElem?, replicate}
 use Rattle.xml.specs.Bytes.{Bytes}
 use Rattle.keys.specs.Result.{Result, numberOf, refused, ok, _>>=_, _>>_, refuse, orRefuse, r1, r2, r11, r13, r14}
-use Rattle.xml.specs.Forest.{Forest, end, write, nodes}
+use Rattle.xml.specs.Forest.{Forest, write, nodes}
 use Rattle.keys.specs.KeyList.{KeyList, keyList}
 use Rattle.keys.specs.Version.{version}
 use Rattle.keys.specs.Address.{address, holds}
 use Rattle.timestamp.specs.Times.{writeTimes}
+use Rattle.marks.specs.declared.Mark.{Mark}
+use Rattle.marks.specs.Marks.{Named, entries, marksIn, legalName, find, upTo, setting, finding, tableBytes, marks-compute}
 use Rattle.versions.specs.Archive.{archiveOf, archiveText, archive-compute}
 
 -- "A success returns 0 and a length n: the output's first n bytes are the result"; "With each [refusal]: length 0"
@@ -108,16 +109,81 @@ history keys archive place out work = answer (do
   ls ← address K place
   give out (writeTimes (map (holds K [] ls) vs)))
 
--- step back to version i
-unfoldable pub stepBack : (keys archive : Bytes) (i out work : ℕ) → Answer
-stepBack keys archive i out work = answer (do
+-- ---- the calls over a table of marks (Q-2)
+-- what such a call gives: a text, and the marks held from then on
+pub record Given : Type 0 where
+  pub text : Bytes
+  pub marks : List Named
+
+-- its answer, and the table that it leaves: "Every refusal, of whatever number, leaves output and marks untouched."
+pub record Marked : Type 0 where
+  pub answer : Answer
+  pub table : List Mark
+
+unfoldable pub marked : List Mark → Result Given → Marked
+marked table (refused r) = record { answer = answer (refused r); table = table }
+marked table (ok g) = record { answer = answer (ok (g .text)); table = entries (g .marks) }
+
+-- "finding also gives the version, 0 when refused"
+pub record FoundMark : Type 0 where
+  pub answer : Answer
+  pub version : ℕ
+
+unfoldable pub foundMark : Result Named → FoundMark
+foundMark (refused r) = record { answer = answer (refused r); version = 0 }
+foundMark (ok k) = record { answer = answer (ok []); version = k .version }
+
+-- set a mark: "no output and .. length 0"
+unfoldable pub setMark : (keys archive : Bytes) (table : List Mark) (name : Bytes) (i work : ℕ) → Marked
+setMark keys archive table name i work = marked table (do
   room work
   atMost 4096 keys
   atMost 32768 archive
   K ← keyList keys
   vs ← archiveText K archive
+  ks ← setting (length vs) table name i
+  ok (record { text = []; marks = ks }))
+
+-- find a mark
+unfoldable pub findMark : (keys archive : Bytes) (table : List Mark) (name : Bytes) (work : ℕ) → FoundMark
+findMark keys archive table name work = foundMark (do
+  room work
+  atMost 4096 keys
+  atMost 32768 archive
+  K ← keyList keys
+  vs ← archiveText K archive
+  finding (length vs) table name)
+
+-- the archive of the versions 1 to i of vs; of the marks ks: "drops marks of later versions and keeps the others in order"
+unfoldable pub earlier : KeyList → List Forest → List Named → (i out : ℕ) → Result Given
+earlier K vs ks i out = do
   us ← versionsTo i vs
-  give out (write (archiveOf K us)))
+  s ← give out (write (archiveOf K us))
+  ok (record { text = s; marks = upTo i ks })
+
+-- step back to version i: "by number now takes the table too"
+unfoldable pub stepBack : (keys archive : Bytes) (table : List Mark) (i out work : ℕ) → Marked
+stepBack keys archive table i out work = marked table (do
+  room work
+  atMost 4096 keys
+  atMost 32768 archive
+  K ← keyList keys
+  vs ← archiveText K archive
+  ks ← marksIn (length vs) table
+  earlier K vs ks i out)
+
+-- step back to the version of a mark: "stepping back by name"
+unfoldable pub stepBackToMark : (keys archive : Bytes) (table : List Mark) (name : Bytes) (out work : ℕ) → Marked
+stepBackToMark keys archive table name out work = marked table (do
+  room work
+  atMost 4096 keys
+  atMost 32768 archive
+  K ← keyList keys
+  vs ← archiveText K archive
+  ks ← marksIn (length vs) table
+  legalName name
+  k ← find name ks
+  earlier K vs ks (k .version) out)
 
 -- ---- what a call leaves behind
 -- "the output's first n bytes are the result, the rest keep their values"; "With each [refusal]: .. output untouched"
@@ -128,6 +194,10 @@ outAfter a out = a .bytes ++ drop (length (a .bytes)) out
 unfoldable pub workAfter : Answer → List ℕ → List ℕ
 workAfter a work = elim (eqb (a .number) 1) [ true ↦ work | false ↦ replicate (length work) 0 ]
 
+-- "C passes the table as 608 bytes": what a call leaves in them
+unfoldable pub tableLeft : Marked → Bytes → Bytes
+tableLeft m s = elim (eqb (m .answer .number) 0) [ true ↦ tableBytes (m .table) | false ↦ s ]
+
 unfoldable pub calls-compute : Unit {0}
-unfolding archive-compute numberOf answer room atMost versionAt versionsTo notFull storable give checkKeys found add retrieve history stepBack outAfter workAfter
+unfolding archive-compute marks-compute numberOf answer room atMost versionAt versionsTo notFull storable give checkKeys found add retrieve history marked foundMark setMark findMark earlier stepBack stepBackToMark outAfter workAfter tableLeft
 calls-compute = tt

@@ -54,6 +54,7 @@ pub mod VersionText
 pub mod Timely
 pub mod BackText
 pub mod Standing
+pub mod MarkLaws
 pub mod LegalKeys
 pub mod LegalTimes
 pub mod LegalSteps
@@ -61,4 +62,4 @@ pub mod LegalGoing
 pub mod NodeCount
 pub mod OuterTimes
 pub mod LegalWhole
-pub mod Marks
+pub mod Hashes

@@ -3,6 +3,7 @@ use Prim.Native.Nat.{ℕ}
 use mathlib.Core.Path.{_≡_, refl}
 use mathlib.Core.List.{List, [], _∷_, map}
 use Rattle.xml.specs.Bytes.{Bytes, bytes}
+use Rattle.marks.specs.Marks.{entries}
 use Rattle.versions.specs.Calls.{Answer, found, add, retrieve, history, stepBack, calls-compute}
 
 abbrev keys : Bytes
@@ -44,14 +45,14 @@ table =
     (found keys v1 32768 16384, success line1) ∷
     (add keys v2 line1 32768 16384, success line2) ∷
     (add keys v3 line2 32768 16384, success line3) ∷
-    -- P1 to P5
+    -- P1 to P5; "P4 to P6 lend a table of unused entries"
     (history keys line3 (bytes "/station/lamp[pos=\"1\"]") 32768 16384, success (bytes "2-3")) ∷
     (history keys line3 (bytes "/station/lamp[pos=\"2\"]/hours") 32768 16384, success (bytes "1-2")) ∷
     (history keys line3 (bytes "/station/lamp[pos=\"7\"]") 32768 16384, success []) ∷
-    (stepBack keys line3 2 32768 16384, success line2) ∷
-    (stepBack keys line3 1 32768 16384, success line1) ∷
+    (stepBack keys line3 (entries []) 2 32768 16384 .answer, success line2) ∷
+    (stepBack keys line3 (entries []) 1 32768 16384 .answer, success line1) ∷
     -- P6 to P10
-    (stepBack keys line3 0 32768 16384, refusal 11) ∷
+    (stepBack keys line3 (entries []) 0 32768 16384 .answer, refusal 11) ∷
     (retrieve keys line3 4 32768 16384, refusal 11) ∷
     (add keys [] line3 32768 16384, refusal 5) ∷
     (add keys twoLamps line3 32768 16384, refusal 9) ∷

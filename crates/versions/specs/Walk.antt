@@ -1,26 +1,27 @@
 -- What a program does on the forest of an archive: which forests are legal, by conditions that it can check in one walk, and what
--- retrieving, stepping back, histories and adding do there. Calls.antt is stated without it; WalkLaws.antt says that it comes to the same.
+-- retrieving, stepping back, histories, adding and the calls over marks do there. Calls.antt is stated without it; WalkLaws.antt says that it comes to the same.
 use Prim.Native.Nat.{ℕ, suc}
-use mathlib.Core.Path.{_≡_, refl}
 use mathlib.Core.Bool.{Bool, true, false, not, _&&_, _||_}
 use mathlib.Core.Option.{Option, none, some}
 use mathlib.Core.List.{List, [], _∷_, _++_, map}
-use lib.Dec.{eqb, leb, ltb}
-use lib.ListN.{length, take}
+use lib.Dec.{eqb, leb}
+use lib.ListN.{length}
 use Rattle.xml.specs.Bytes.{Bytes, bytes, any, all, same}
 use Rattle.xml.specs.Forest.{Forest, end, elem, text, stamp, write, nodes, join, sameForest}
 use Rattle.xml.specs.Read.{read, isEnd}
 use Rattle.model.specs.Keyed.{three}
 use Rattle.model.specs.Stored.{orL}
 use Rattle.model.specs.Orders.{labels}
-use Rattle.keys.specs.Result.{Result, refused, ok, _>>=_, _>>_, refuse, refusedAs, r10, r11}
+use Rattle.keys.specs.Result.{Result, ok, _>>=_, _>>_, refuse, refusedAs, r10, r11}
 use Rattle.keys.specs.KeyList.{Path, KeyList, keyList, listed, above, keyNamesAt}
 use Rattle.keys.specs.Version.{_▸_, Label, label, called, isOneValue, sameLabel, before, tooLarge, parsed, version}
 use Rattle.keys.specs.Address.{address}
 use Rattle.keys.specs.Legal.{untimed}
 use Rattle.timestamp.specs.Times.{Times, sameTimes, onlyAfter, always, upFrom, belongs, writeTimes, lastNumber}
+use Rattle.marks.specs.declared.Mark.{Mark}
+use Rattle.marks.specs.Marks.{Named, marksIn, legalName, find, upTo, setting, finding}
 use Rattle.versions.specs.Archive.{pick, lastVersion}
-use Rattle.versions.specs.Calls.{Answer, answer, room, atMost, storable, give, calls-compute}
+use Rattle.versions.specs.Calls.{Answer, answer, Given, Marked, marked, FoundMark, foundMark, room, atMost, storable, give, calls-compute}
 
 -- ---- sets
 -- the set that a text gives, of n versions, and whether it is that set's text
@@ -288,16 +289,57 @@ historyOn keys archive place out work = answer (do
   ls ← address K place
   give out (historyForest K ls f))
 
-unfoldable pub stepBackOn : (keys archive : Bytes) (i out work : ℕ) → Answer
-stepBackOn keys archive i out work = answer (do
-  room work
+-- ---- the calls over a table of marks: n is the number of the archive's last version
+-- the archive's forest: all steps up to 10, but for the first
+unfoldable pub archiveIn : (keys archive : Bytes) → Result Forest
+archiveIn keys archive = do
   atMost 4096 keys
   atMost 32768 archive
   K ← keyList keys
-  f ← archiveRead K archive
+  archiveRead K archive
+
+-- how many versions it has
+unfoldable pub countOn : (keys archive : Bytes) → Result ℕ
+countOn keys archive = do
+  f ← archiveIn keys archive
+  ok (lastVersion f)
+
+unfoldable pub setMarkOn : (keys archive : Bytes) (table : List Mark) (name : Bytes) (i work : ℕ) → Marked
+setMarkOn keys archive table name i work = marked table (do
+  room work
+  n ← countOn keys archive
+  ks ← setting n table name i
+  ok (record { text = []; marks = ks }))
+
+unfoldable pub findMarkOn : (keys archive : Bytes) (table : List Mark) (name : Bytes) (work : ℕ) → FoundMark
+findMarkOn keys archive table name work = foundMark (do
+  room work
+  n ← countOn keys archive
+  finding n table name)
+
+-- the last steps of stepping back to i, and the marks that stay
+unfoldable pub earlierOn : Forest → List Named → (i out : ℕ) → Result Given
+earlierOn f ks i out = do
   refuse r11 (not (leb 1 i && leb i (lastVersion f)))
-  give out (write (backForest i f)))
+  s ← give out (write (backForest i f))
+  ok (record { text = s; marks = upTo i ks })
+
+unfoldable pub stepBackOn : (keys archive : Bytes) (table : List Mark) (i out work : ℕ) → Marked
+stepBackOn keys archive table i out work = marked table (do
+  room work
+  f ← archiveIn keys archive
+  ks ← marksIn (lastVersion f) table
+  earlierOn f ks i out)
+
+unfoldable pub stepBackToMarkOn : (keys archive : Bytes) (table : List Mark) (name : Bytes) (out work : ℕ) → Marked
+stepBackToMarkOn keys archive table name out work = marked table (do
+  room work
+  f ← archiveIn keys archive
+  ks ← marksIn (lastVersion f) table
+  legalName name
+  k ← find name ks
+  earlierOn f ks (k .version) out)
 
 unfoldable pub walk-compute : Unit {0}
-unfolding calls-compute timesIn canonical ever within disjoint earlier branchesIn allTimed apart contentsApart together frontLegal isSole firstLabel precedes siblingsLegal allSmall insideOf forestLegal archiveRead backIn backForest historyIn historyForest newest addBranch addBare addContent addNew addAt addIn addForest untimed addOn retrieveOn historyOn stepBackOn
+unfolding calls-compute timesIn canonical ever within disjoint earlier branchesIn allTimed apart contentsApart together frontLegal isSole firstLabel precedes siblingsLegal allSmall insideOf forestLegal archiveRead backIn backForest historyIn historyForest newest addBranch addBare addContent addNew addAt addIn addForest untimed addOn retrieveOn historyOn archiveIn countOn setMarkOn findMarkOn earlierOn stepBackOn stepBackToMarkOn
 walk-compute = tt

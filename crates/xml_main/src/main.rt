@@ -14,7 +14,7 @@ fn say(word: &[u8]) {
 }
 
 // `=` where a text is spelled as it is written, `~` where it is not.
-fn mark(neat: bool) {
+fn say_spelling(neat: bool) {
     if neat {
         say(b"= ");
     } else {
@@ -55,7 +55,7 @@ fn show(text: &[u8], cells: usize, room: usize)
     let mut out = bytes_256();
     match canonical(text, &mut tape[..cells], &mut out[..room]) {
         Canon::Done(n) => {
-            mark(is_spelled(text));
+            say_spelling(is_spelled(text));
             say(&out[..n]);
         }
         Canon::Long => say(b"! longer than 16384"),

@@ -1,4 +1,4 @@
-//! A plain implementation of document 01's six calls, and what the benchmark measures.
+//! A plain implementation of document 01's six calls and document 02's three over marks, and what the benchmark measures.
 
 pub mod plain;
 pub mod rounds;

@@ -1,4 +1,4 @@
-//! `bench [SECONDS]`: times of the six calls on each workload, of the library behind its C entries
+//! `bench [SECONDS]`: times of the calls on each workload, of the library behind its C entries
 //! (feature `library`), the plain implementation and libxml2 (feature `libxml2`), and the stack
 //! that the calls use. Prints Markdown. Exit status 1 if library and plain give different results.
 
@@ -55,12 +55,12 @@ fn agree(workloads: &[Workload]) {
     for workload in workloads {
         for call in workload.calls() {
             let results = [LIBRARY, &Plain].map(|station| {
-                let mut out = vec![0xA5; OUTPUT];
-                (station.call(&workload.keys, call, &mut out), out)
+                let (mut table, mut out) = (call.table().to_vec(), vec![0xA5; OUTPUT]);
+                (station.call(&workload.keys, call, &mut table, &mut out), table, out)
             });
-            let [(library, _), (plain, _)] = &results;
-            if results[0] != results[1] || plain.0 != 0 {
-                eprintln!("{} of {}: the library returned {library:?}, plain {plain:?}, or the outputs differ", CALLS[call.index()], workload.name);
+            let [(library, ..), (plain, ..)] = &results;
+            if results[0] != results[1] || plain.number != 0 {
+                eprintln!("{} of {}: the library returned {library:?}, plain {plain:?}, or the outputs or tables differ", CALLS[call.index()], workload.name);
                 std::process::exit(1);
             }
         }
@@ -77,9 +77,11 @@ fn row<'a>(workload: &'a Workload, call: Call<'a>, time: Duration) -> Row<'a> {
 }
 
 fn caller<'a>(station: &'static dyn Station, workload: &'a Workload, call: Call<'a>) -> Box<dyn FnMut() + 'a> {
-    let mut out = vec![0; OUTPUT];
+    let (mut table, mut out) = (call.table().to_vec(), vec![0; OUTPUT]);
     Box::new(move || {
-        black_box(station.call(black_box(&workload.keys), black_box(call), black_box(&mut out)));
+        // A call may change the table: each is lent the same one.
+        table.copy_from_slice(call.table());
+        black_box(station.call(black_box(&workload.keys), black_box(call), black_box(&mut table), black_box(&mut out)));
     })
 }
 
@@ -91,6 +93,7 @@ fn libxml2_reader<'a>(call: Call<'a>) -> Option<Box<dyn FnMut() + 'a>> {
         Call::Found { version } => vec![version],
         Call::Add { archive, version } => vec![archive, version],
         Call::Retrieve { archive, .. } | Call::History { archive, .. } | Call::Back { archive, .. } => vec![archive],
+        Call::BackToMark { archive, .. } | Call::SetMark { archive, .. } | Call::FindMark { archive, .. } => vec![archive],
     };
     assert!(texts.iter().all(|text| libxml2::read(text)), "libxml2 reads the texts");
     Some(Box::new(move || {

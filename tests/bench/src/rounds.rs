@@ -5,6 +5,7 @@
 use crate::workloads::{self, Workload};
 use compare::archives;
 use compare::comparison::Comparison;
+use compare::marks::{self, UNUSED};
 use compare::random::Random;
 use compare::station::Call;
 use reference::archive::archive;
@@ -36,14 +37,20 @@ pub fn damaged_workload(c: &mut Comparison, seed: u64, number: u64) {
     }
 }
 
-/// One of the calls that take an archive.
+/// One of the calls that take an archive, with a table that may be damaged.
 fn ask_one(c: &mut Comparison, r: &mut Random, workload: &Workload, archive: &[u8]) {
     let i = 1 + r.below(workload.n);
-    let call = match r.below(4) {
+    let tables = [marks::damaged(r, &workload.marked, workload.n), workload.marked.clone(), workload.table.clone()];
+    let table = r.pick(&tables);
+    let name = &marks::any_name(r, table);
+    let call = match r.below(7) {
         0 => Call::Add { archive, version: &workload.version },
         1 => Call::Retrieve { archive, i },
         2 => Call::History { archive, address: &workload.address },
-        _ => Call::Back { archive, i },
+        3 => Call::BackToMark { archive, table, name },
+        4 => Call::SetMark { archive, table, name, i },
+        5 => Call::FindMark { archive, table, name },
+        _ => Call::Back { archive, table, i },
     };
     c.ask(r, &workload.keys, call);
 }
@@ -85,7 +92,7 @@ pub fn large_versions(c: &mut Comparison, seed: u64, number: u64) {
     let text = archive(&keys, &versions).bytes;
     for i in [1, n] {
         c.ask(r, KEYS, Call::Retrieve { archive: &text, i });
-        c.ask(r, KEYS, Call::Back { archive: &text, i });
+        c.ask(r, KEYS, Call::Back { archive: &text, table: &UNUSED, i });
     }
     c.ask(r, KEYS, Call::History { archive: &text, address: b"/s/k[p=\"1\"]/v" });
     let last = written(&keys, &versions[n - 1]).bytes;
@@ -99,8 +106,8 @@ fn element(name: &str, content: Vec<Node>) -> Node {
 }
 
 fn large_content(r: &mut Random, by_nodes: bool) -> Vec<Node> {
-    let mark = Node::Text(format!("{}", r.below(1_000)).into_bytes());
-    let mut content = vec![mark, element("m", vec![])];
+    let number = Node::Text(format!("{}", r.below(1_000)).into_bytes());
+    let mut content = vec![number, element("m", vec![])];
     lengthen(&mut content, r.below(if by_nodes { 200 } else { 6_000 }), by_nodes);
     content
 }

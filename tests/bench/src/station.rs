@@ -1,7 +1,7 @@
 //! The plain implementation as a station of `../compare`.
 
 use crate::plain;
-use compare::station::{Call, Station};
+use compare::station::{Call, Returned, Station};
 
 pub struct Plain;
 
@@ -10,14 +10,20 @@ impl Station for Plain {
         "plain Rust"
     }
 
-    fn call(&self, keys: &[u8], call: Call, out: &mut [u8]) -> (u32, usize) {
-        match call {
+    fn call(&self, keys: &[u8], call: Call, table: &mut [u8], out: &mut [u8]) -> Returned {
+        Returned::plain(match call {
             Call::CheckKeys => plain::check_keys(keys),
             Call::Found { version } => plain::found(keys, version, out),
             Call::Add { archive, version } => plain::add(keys, archive, version, out),
             Call::Retrieve { archive, i } => plain::retrieve(keys, archive, i, out),
             Call::History { archive, address } => plain::history(keys, archive, address, out),
-            Call::Back { archive, i } => plain::back(keys, archive, i, out),
-        }
+            Call::Back { archive, i, .. } => plain::back(keys, archive, table, i, out),
+            Call::BackToMark { archive, name, .. } => plain::back_to_mark(keys, archive, table, name, out),
+            Call::SetMark { archive, name, i, .. } => plain::set_mark(keys, archive, table, name, i),
+            Call::FindMark { archive, name, .. } => {
+                let (number, version) = plain::find_mark(keys, archive, table, name);
+                return Returned { number, length: 0, version };
+            }
+        })
     }
 }

@@ -2,6 +2,7 @@
 //! made with the plain implementation.
 
 use crate::plain;
+use compare::marks::UNUSED;
 use compare::random::Random;
 use compare::station::Call;
 
@@ -16,11 +17,22 @@ pub struct Workload {
     pub version: Vec<u8>,
     pub archive: Vec<u8>,
     pub address: Vec<u8>,
+    /// The table that is lent to a step back by number: of unused entries, or full of marks.
+    pub table: Vec<u8>,
+    /// The one that a mark is set in, with room for it.
+    pub room: Vec<u8>,
+    /// The one whose last mark, of version n - 1, is found and stepped back to.
+    pub marked: Vec<u8>,
 }
 
+/// The name of the last mark of `marked`, and of the mark that is set.
+const LAST: &[u8] = b"as-commissioned";
+const NEW: &[u8] = b"new_lens";
+
 impl Workload {
-    /// The six calls: the last version founds, and is added; it is retrieved; one step back.
-    pub fn calls(&self) -> [Call<'_>; 6] {
+    /// The calls: the last version founds, and is added; it is retrieved; one step back, by number
+    /// and by name; a mark of version n is set, the last one is found.
+    pub fn calls(&self) -> [Call<'_>; 9] {
         let archive = &self.archive;
         [
             Call::CheckKeys,
@@ -28,8 +40,23 @@ impl Workload {
             Call::Add { archive: &self.before, version: &self.version },
             Call::Retrieve { archive, i: self.n },
             Call::History { archive, address: &self.address },
-            Call::Back { archive, i: self.n - 1 },
+            Call::Back { archive, table: &self.table, i: self.n - 1 },
+            Call::BackToMark { archive, table: &self.marked, name: LAST },
+            Call::SetMark { archive, table: &self.room, name: NEW, i: self.n },
+            Call::FindMark { archive, table: &self.marked, name: LAST },
         ]
+    }
+
+    /// With tables that are full of marks, or for one more.
+    fn full_of_marks(self) -> Workload {
+        let room = (0..31).fold(UNUSED.to_vec(), |table, number| self.with_mark(table, format!("mark-{number}").as_bytes(), 1 + number * 7 % self.n));
+        let marked = self.with_mark(room.clone(), LAST, self.n - 1);
+        Workload { table: marked.clone(), room, marked, ..self }
+    }
+
+    fn with_mark(&self, mut table: Vec<u8>, name: &[u8], version: usize) -> Vec<u8> {
+        assert_eq!(plain::set_mark(&self.keys, &self.archive, &mut table, name, version), (0, 0));
+        table
     }
 
     /// The nodes of the archive: elements but the `T`s, and runs of text.
@@ -83,7 +110,9 @@ impl Growing {
 
     fn done(self, name: &'static str, address: &str) -> Workload {
         let Growing { keys, n, before, version, archive } = self;
-        Workload { name, keys, n, before, version, archive, address: address.into() }
+        let unused = UNUSED.to_vec();
+        let workload = Workload { name, keys, n, before, version, archive, address: address.into(), table: unused.clone(), room: unused.clone(), marked: vec![] };
+        Workload { marked: workload.with_mark(unused, LAST, n - 1), ..workload }
     }
 }
 
@@ -143,7 +172,7 @@ impl Lamps {
     }
 }
 
-/// A station with 40 lamps.
+/// A station with 40 lamps, and with 32 marks.
 pub fn typical(versions: usize) -> Workload {
     let mut lamps = Lamps::new(40);
     let mut archive = Growing::new(STATION);
@@ -151,7 +180,7 @@ pub fn typical(versions: usize) -> Workload {
         archive.add(&lamps.version(""));
         lamps.pass(6);
     }
-    archive.done("typical", "/station/lamp[pos=\"17\"]/hours")
+    archive.done("typical", "/station/lamp[pos=\"17\"]/hours").full_of_marks()
 }
 
 /// As full as an archive can be: 1,024 nodes and 32,768 bytes. The last versions have a note
@@ -187,7 +216,7 @@ fn note(elements: usize, bytes: usize) -> String {
 fn stepped_back(archive: Growing, steps: usize) -> Growing {
     let mut out = vec![0; 32_768];
     let n = archive.n - steps;
-    let (number, length) = plain::back(&archive.keys, &archive.archive, n, &mut out);
+    let (number, length) = plain::back(&archive.keys, &archive.archive, &mut UNUSED.to_vec(), n, &mut out);
     assert_eq!(number, 0);
     out.truncate(length);
     Growing { n, archive: out, ..archive }

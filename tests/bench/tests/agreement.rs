@@ -6,6 +6,8 @@ use bench::station::Plain;
 use bench::workloads;
 use compare::comparison::Comparison;
 use compare::limits;
+use compare::marks::UNUSED;
+use reference::marks::{entries, read};
 
 fn no_difference(c: &Comparison) {
     assert!(c.differences.is_empty(), "{}", c.summary());
@@ -41,9 +43,11 @@ fn the_record() {
         assert_eq!(plain::history(keys, archive, address.as_bytes(), &mut out), (0, history.len()));
         assert_eq!(&out[..history.len()], history.as_bytes());
     }
-    assert_eq!(plain::back(keys, archive, 2, &mut out), (0, record.before.len()));
+    let mut unused = UNUSED;
+    assert_eq!(plain::back(keys, archive, &mut unused, 2, &mut out), (0, record.before.len()));
     assert_eq!(out[..record.before.len()], record.before);
-    assert_eq!(plain::back(keys, archive, 0, &mut out), (11, 0));
+    assert_eq!(plain::back(keys, archive, &mut unused, 0, &mut out), (11, 0));
+    assert_eq!(unused, UNUSED);
     assert_eq!(plain::retrieve(keys, archive, 4, &mut out), (11, 0));
 }
 
@@ -54,6 +58,9 @@ fn the_workloads() {
         let reference = reference::retrieve(&workload.keys, &workload.archive, 1, usize::MAX, reference::WORK_CELLS);
         assert_eq!(reference.number, 0, "{}", workload.name);
     }
+    let typical = workloads::typical(50);
+    let marks = |table: &[u8]| read(&entries(table).unwrap(), typical.n).map(|marks| marks.len());
+    assert_eq!((marks(&typical.table), marks(&typical.room), marks(&typical.marked)), (Ok(32), Ok(31), Ok(32)));
     let full = workloads::full();
     assert_eq!((full.nodes(), full.archive.len()), (1_024, 32_768));
     assert_eq!(workloads::counter(999).n, 999);

@@ -1,13 +1,14 @@
 //! Asks the reference and the station, compares, and keeps count.
 
 use crate::random::Random;
-use crate::station::{answer, Call, Station, CALLS};
-use reference::Answer;
+use crate::station::{answer, Call, Expected, Returned, Station, CALLS};
 use std::collections::BTreeMap;
 use std::fmt::Write;
 
-/// Bytes on both sides of the output that nobody may touch.
+/// Bytes on both sides of the output, and of the table, that nobody may touch.
 const GUARD: usize = 64;
+/// 0, and the rows of the table up to 17.
+const NUMBERS: usize = 18;
 
 /// Differences of one kind: how many, and the shortest in full.
 pub struct Difference {
@@ -19,7 +20,7 @@ pub struct Difference {
 pub struct Comparison<'a> {
     station: &'a dyn Station,
     /// Calls compared, by call and by the number expected.
-    pub counts: [[u64; 15]; 6],
+    pub counts: [[u64; NUMBERS]; CALLS.len()],
     /// Demand 3: results measured against a shelf.
     pub shelf_checks: u64,
     /// By call, expected number and returned number.
@@ -29,30 +30,71 @@ pub struct Comparison<'a> {
     /// A file that is given each case before the station is asked, so that it has the last one
     /// if the station never returns.
     last_case: Option<String>,
+    output: Guarded,
+    table: Guarded,
+}
+
+/// What a call may write to, between guards, and what should be there when it returns.
+#[derive(Default)]
+struct Guarded {
     buffer: Vec<u8>,
     expected: Vec<u8>,
+}
+
+impl Guarded {
+    /// Lends so many bytes with a pattern in them.
+    fn fill(&mut self, length: usize) {
+        self.expected.clear();
+        self.expected.extend((0..length + 2 * GUARD).map(|at| (at as u8).wrapping_mul(37) ^ 0xA5));
+        self.buffer.clone_from(&self.expected);
+    }
+
+    /// Puts bytes at the front of what is lent.
+    fn lend(&mut self, bytes: &[u8]) {
+        self.buffer[GUARD..GUARD + bytes.len()].copy_from_slice(bytes);
+    }
+
+    /// Expects bytes at the front of what is lent.
+    fn expect(&mut self, bytes: &[u8]) {
+        self.expected[GUARD..GUARD + bytes.len()].copy_from_slice(bytes);
+    }
+
+    fn lent(&mut self) -> &mut [u8] {
+        let end = self.buffer.len() - GUARD;
+        &mut self.buffer[GUARD..end]
+    }
+
+    /// The first byte that is not as expected, if there is one.
+    fn told(&self, what: &str) -> Option<String> {
+        if self.buffer == self.expected {
+            return None;
+        }
+        let at = (0..self.buffer.len()).find(|&at| self.buffer[at] != self.expected[at])?;
+        let place = at as isize - GUARD as isize;
+        Some(format!("  the {what} differs at byte {place}: {:02x} expected, {:02x} there\n", self.expected[at], self.buffer[at]))
+    }
 }
 
 impl<'a> Comparison<'a> {
     pub fn new(station: &'a dyn Station) -> Comparison<'a> {
         Comparison {
             station,
-            counts: [[0; 15]; 6],
+            counts: [[0; NUMBERS]; CALLS.len()],
             shelf_checks: 0,
             differences: BTreeMap::new(),
             place: String::new(),
             last_case: std::env::var("COMPARE_LAST_CASE").ok(),
-            buffer: vec![],
-            expected: vec![],
+            output: Guarded::default(),
+            table: Guarded::default(),
         }
     }
 
     /// Compares a call, lent one output or several: enough, exact, one byte short, none.
     /// Gives the reference's answer for an output that is long enough.
-    pub fn ask(&mut self, r: &mut Random, keys: &[u8], call: Call) -> Answer {
+    pub fn ask(&mut self, r: &mut Random, keys: &[u8], call: Call) -> Expected {
         let full = answer(keys, call, usize::MAX);
         let length = full.bytes.len();
-        if matches!(call, Call::CheckKeys) {
+        if !call.has_output() {
             self.compare(keys, call, &full, 0);
         } else if full.number != 0 {
             let out_len = r.choose(&[0, 1, 100, 5_000, 32_768]);
@@ -77,11 +119,11 @@ impl<'a> Comparison<'a> {
     }
 
     /// Compares a call with each output length of interest.
-    pub fn ask_each_output(&mut self, keys: &[u8], call: Call) -> Answer {
+    pub fn ask_each_output(&mut self, keys: &[u8], call: Call) -> Expected {
         let full = answer(keys, call, usize::MAX);
         let length = full.bytes.len();
         self.compare(keys, call, &full, length);
-        if !matches!(call, Call::CheckKeys) {
+        if call.has_output() {
             self.compare(keys, call, &full, length + 1);
             self.compare(keys, call, &full, 32_768);
             if length > 0 {
@@ -92,41 +134,39 @@ impl<'a> Comparison<'a> {
         full
     }
 
-    /// Compares one call of the station with the answer for a long enough output:
-    /// number, length, and all of the output, with guards around it.
-    fn compare(&mut self, keys: &[u8], call: Call, full: &Answer, out_len: usize) {
+    /// Compares one call of the station with the answer for a long enough output: number, length,
+    /// version found, and all of the output and of the table, with guards around them.
+    fn compare(&mut self, keys: &[u8], call: Call, full: &Expected, out_len: usize) {
         let short = full.number == 0 && out_len < full.bytes.len();
-        let (number, result): (u32, &[u8]) = if short { (14, &[]) } else { (full.number, &full.bytes) };
+        let (number, result, table): (u32, &[u8], &[u8]) = if short { (14, &[], call.table()) } else { (full.number, &full.bytes, &full.table) };
+        let expected = Returned { number, length: result.len(), version: full.version };
         self.counts[call.index()][number as usize] += 1;
 
-        let pattern = |at: usize| (at as u8).wrapping_mul(37) ^ 0xA5;
-        self.expected.clear();
-        self.expected.extend((0..out_len + 2 * GUARD).map(pattern));
-        self.buffer.clone_from(&self.expected);
-        self.expected[GUARD..GUARD + result.len()].copy_from_slice(result);
+        self.output.fill(out_len);
+        self.output.expect(result);
+        self.table.fill(table.len());
+        self.table.lend(call.table());
+        self.table.expect(table);
         let title = || format!("{} ({}), output of {out_len} bytes\n{}", CALLS[call.index()], self.place, arguments(keys, call));
         if let Some(file) = &self.last_case {
             std::fs::write(file, title()).expect("the file COMPARE_LAST_CASE names");
         }
-        let got = self.station.call(keys, call, &mut self.buffer[GUARD..GUARD + out_len]);
-        if got != (number, result.len()) || self.buffer != self.expected {
-            let at = (0..self.buffer.len()).find(|&at| self.buffer[at] != self.expected[at]);
+        let got = self.station.call(keys, call, self.table.lent(), self.output.lent());
+        let differences = [self.output.told("output"), self.table.told("table")];
+        if got != expected || differences.iter().any(Option::is_some) {
             let mut told = title();
-            let _ = writeln!(told, "  expected: number {number}, length {}, {}", result.len(), shown(result));
-            let _ = write!(told, "  returned: number {}, length {}", got.0, got.1);
-            if got.0 == 0 && got.1 <= out_len {
-                let _ = write!(told, ", {}", shown(&self.buffer[GUARD..GUARD + got.1]));
+            let _ = writeln!(told, "  expected: {}, {}", returned(expected), shown(result));
+            let _ = write!(told, "  returned: {}", returned(got));
+            if got.number == 0 && got.length <= out_len {
+                let _ = write!(told, ", {}", shown(&self.output.lent()[..got.length]));
             }
             told.push('\n');
-            if let Some(at) = at {
-                let place = at as isize - GUARD as isize;
-                let _ = writeln!(told, "  the output differs at byte {place}: {:02x} expected, {:02x} there", self.expected[at], self.buffer[at]);
-            }
-            self.note(call.index(), number, got.0, size(keys, call) + out_len, told);
+            differences.into_iter().flatten().for_each(|difference| told += &difference);
+            self.note(call.index(), number, got.number, size(keys, call) + out_len, told);
         }
     }
 
-    /// Demand 3: a result is what the shelf gives.
+    /// Demand 3: a result, or a table, is what the shelf gives.
     pub fn shelf_gives(&mut self, keys: &[u8], call: Call, result: &[u8], shelfs: &[u8]) {
         self.shelf_checks += 1;
         if result != shelfs {
@@ -158,17 +198,17 @@ impl<'a> Comparison<'a> {
     /// Cases by call and by number, and the differences.
     pub fn summary(&self) -> String {
         let mut told = String::from("number     ");
-        CALLS.iter().for_each(|call| told += &format!("{call:>12}"));
-        told += &format!("{:>12}\n", "all");
-        for number in 0..15 {
+        CALLS.iter().for_each(|call| told += &format!("{call:>13}"));
+        told += &format!("{:>13}\n", "all");
+        for number in 0..NUMBERS {
             let row: Vec<u64> = self.counts.iter().map(|counts| counts[number]).collect();
             told += &format!("{number:>6}     ");
-            row.iter().for_each(|count| told += &format!("{count:>12}"));
-            told += &format!("{:>12}\n", row.iter().sum::<u64>());
+            row.iter().for_each(|count| told += &format!("{count:>13}"));
+            told += &format!("{:>13}\n", row.iter().sum::<u64>());
         }
         told += "   all     ";
-        self.counts.iter().for_each(|counts| told += &format!("{:>12}", counts.iter().sum::<u64>()));
-        told += &format!("{:>12}\n", self.cases());
+        self.counts.iter().for_each(|counts| told += &format!("{:>13}", counts.iter().sum::<u64>()));
+        told += &format!("{:>13}\n", self.cases());
         told += &format!("results measured against a shelf (demand 3): {}\n", self.shelf_checks);
         if self.differences.is_empty() {
             told += "no difference\n";
@@ -190,20 +230,46 @@ fn size(keys: &[u8], call: Call) -> usize {
             Call::CheckKeys => 0,
             Call::Found { version } => version.len(),
             Call::Add { archive, version } => archive.len() + version.len(),
-            Call::Retrieve { archive, .. } | Call::Back { archive, .. } => archive.len(),
+            Call::Retrieve { archive, .. } => archive.len(),
             Call::History { archive, address } => archive.len() + address.len(),
+            Call::Back { archive, table, .. } => archive.len() + weight(table),
+            Call::BackToMark { archive, table, name } | Call::SetMark { archive, table, name, .. } | Call::FindMark { archive, table, name } => {
+                archive.len() + weight(table) + name.len()
+            }
         }
 }
 
+/// The bytes that are not zero: a table of few marks is a short one.
+fn weight(table: &[u8]) -> usize {
+    table.iter().filter(|&&byte| byte != 0).count()
+}
+
 fn arguments(keys: &[u8], call: Call) -> String {
-    let keys = format!("  keys:     {}\n", shown(keys));
+    let line = |what: &str, bytes: &[u8]| format!("  {:<10}{}\n", format!("{what}:"), shown(bytes));
+    let number = |i: usize| format!("  i:        {i}\n");
+    let keys = line("keys", keys);
     keys + &match call {
         Call::CheckKeys => String::new(),
-        Call::Found { version } => format!("  version:  {}\n", shown(version)),
-        Call::Add { archive, version } => format!("  archive:  {}\n  version:  {}\n", shown(archive), shown(version)),
-        Call::Retrieve { archive, i } | Call::Back { archive, i } => format!("  archive:  {}\n  i:        {i}\n", shown(archive)),
-        Call::History { archive, address } => format!("  archive:  {}\n  address:  {}\n", shown(archive), shown(address)),
+        Call::Found { version } => line("version", version),
+        Call::Add { archive, version } => line("archive", archive) + &line("version", version),
+        Call::Retrieve { archive, i } => line("archive", archive) + &number(i),
+        Call::History { archive, address } => line("archive", archive) + &line("address", address),
+        Call::Back { archive, table, i } => line("archive", archive) + &table_line(table) + &number(i),
+        Call::BackToMark { archive, table, name } | Call::FindMark { archive, table, name } => {
+            line("archive", archive) + &table_line(table) + &line("name", name)
+        }
+        Call::SetMark { archive, table, name, i } => line("archive", archive) + &table_line(table) + &line("name", name) + &number(i),
     }
+}
+
+/// A table with its length, without the zero bytes at its end.
+fn table_line(table: &[u8]) -> String {
+    let end = table.iter().rposition(|&byte| byte != 0).map_or(0, |last| last + 1);
+    format!("  table:    {} bytes, {} and zero bytes\n", table.len(), shown(&table[..end]))
+}
+
+fn returned(Returned { number, length, version }: Returned) -> String {
+    format!("number {number}, length {length}, version {version}")
 }
 
 fn shown(bytes: &[u8]) -> String {

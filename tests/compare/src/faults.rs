@@ -1,9 +1,10 @@
-//! The comparison finds planted faults: those of document 01's "Held to by each call", 3, and
-//! those of an output, length or number that is not as promised.
+//! The comparison finds planted faults: those of document 01's "Held to by each call", 3, those of
+//! an output, length or number that is not as promised, and those of marks (document 02, Q-2).
 
 use crate::comparison::Comparison;
 use crate::round;
-use crate::station::{Call, Reference, Station};
+use crate::station::{Call, Reference, Returned, Station};
+use reference::marks::{self, entries, Mark, TABLE_BYTES, UNUSED};
 
 #[derive(Clone, Copy, Debug)]
 enum Fault {
@@ -21,16 +22,59 @@ enum Fault {
     LengthWhenRefusing,
     TenForEleven,
     ChecksNoArchive,
+    BackKeepsLater,
+    BackDropsItsOwn,
+    BackLosesOrder,
+    SetsOverHeld,
+    SetsAtTheFront,
+    FindsAnother,
+    FindsWhenRefusing,
+    RefusalTouchesTable,
+    RefusedSetWrites,
+    FullBeforeHeld,
+    LongNameIsTwo,
+    NamedBackToN,
+    NamedBackToFirst,
+    TakesShortTable,
+    TakesLaterMarks,
+    ChecksNoTable,
+    TakesNamesTwice,
+    TakesBytesPastNames,
+    ElevenBeforeSeventeen,
 }
 
 struct Faulty(Fault);
 
-fn put(result: &[u8], out: &mut [u8]) -> (u32, usize) {
+fn put(result: &[u8], out: &mut [u8]) -> Returned {
     if out.len() < result.len() {
-        return (14, 0);
+        return refusal(14);
     }
     out[..result.len()].copy_from_slice(result);
-    (0, result.len())
+    Returned::plain((0, result.len()))
+}
+
+fn refusal(number: u32) -> Returned {
+    Returned::plain((number, 0))
+}
+
+/// The marks of a legal table.
+fn marks_in(table: &[u8]) -> Vec<Mark> {
+    marks::read(&entries(table).unwrap(), 999).unwrap()
+}
+
+fn write_marks(marks: &[Mark], table: &mut [u8]) {
+    table.copy_from_slice(&marks::bytes(&marks::table(marks)));
+}
+
+/// The marks of the entries that are not unused, whatever else is wrong with the table.
+fn marks_anyhow(table: &[u8]) -> Vec<Mark> {
+    let used = entries(table).unwrap().into_iter().filter(|entry| *entry != UNUSED);
+    used.filter_map(|entry| Some(Mark { name: entry.name.get(..entry.length.into())?.to_vec(), version: entry.version.into() })).collect()
+}
+
+/// What a find returns that takes a table as it is.
+fn found_anyhow(table: &[u8], name: &[u8], right: Returned) -> Returned {
+    marks::find(&marks_anyhow(table), name).map_or(right, |version| Returned { number: 0, version, ..right })
 }
 
 /// `1-n` of a legal archive.
@@ -44,9 +88,10 @@ impl Station for Faulty {
         "a faulty one"
     }
 
-    fn call(&self, keys: &[u8], call: Call, out: &mut [u8]) -> (u32, usize) {
+    fn call(&self, keys: &[u8], call: Call, table: &mut [u8], out: &mut [u8]) -> Returned {
         let before = out.to_vec();
-        let (number, length) = Reference.call(keys, call, out);
+        let right = Reference.call(keys, call, table, out);
+        let Returned { number, length, .. } = right;
         match (self.0, call) {
             (Fault::AddOnlyRaisesN, Call::Add { archive, .. }) if number == 0 => {
                 let raised = outermost(&out[..length]).to_vec();
@@ -54,7 +99,11 @@ impl Station for Faulty {
                 out.copy_from_slice(&before);
                 put(&[b"<T t=\"", &raised[..], rest].concat(), out)
             }
-            (Fault::AddHandsBack, Call::Add { archive, .. }) | (Fault::BackHandsBack, Call::Back { archive, .. }) if number == 0 => {
+            (Fault::AddHandsBack, Call::Add { archive, .. })
+            | (Fault::BackHandsBack, Call::Back { archive, .. })
+            | (Fault::NamedBackToN, Call::BackToMark { archive, .. })
+                if number == 0 =>
+            {
                 out.copy_from_slice(&before);
                 put(archive, out)
             }
@@ -64,7 +113,7 @@ impl Station for Faulty {
             }
             (Fault::HistoryIsEmpty, Call::History { .. }) if number == 0 => {
                 out.copy_from_slice(&before);
-                (0, 0)
+                refusal(0)
             }
             (Fault::FixedArchive, Call::Found { .. } | Call::Add { .. } | Call::Back { .. }) if number == 0 => {
                 out.copy_from_slice(&before);
@@ -72,38 +121,123 @@ impl Station for Faulty {
             }
             (Fault::RefusesAll, _) => {
                 out.copy_from_slice(&before);
-                (3, 0)
+                refusal(3)
             }
             (Fault::RefusesExactOutput, Call::Found { .. }) if number == 0 && length == out.len() => {
                 out.copy_from_slice(&before);
-                (14, 0)
+                refusal(14)
             }
             (Fault::WritesBeyondTheResult, _) if number == 0 && length < out.len() => {
                 out[length] ^= 1;
-                (number, length)
+                right
             }
             (Fault::WritesWhenRefusing, _) if number == 14 && !out.is_empty() => {
                 out[0] = b'<';
-                (number, length)
+                right
             }
-            (Fault::LengthWhenRefusing, _) if number == 14 => (number, 1),
-            (Fault::TenForEleven, _) if number == 11 => (10, 0),
+            (Fault::LengthWhenRefusing, _) if number == 14 => Returned { length: 1, ..right },
+            (Fault::TenForEleven, _) if number == 11 => refusal(10),
             (Fault::ChecksNoArchive, Call::Retrieve { .. }) if number == 10 => put(b"", out),
-            _ => (number, length),
+            _ => self.marked(keys, call, table, out, right),
         }
     }
 }
 
-fn kinds_found(fault: Fault) -> usize {
+impl Faulty {
+    /// The faults of marks; `right` is what the call should return, and gave to the table and the output.
+    fn marked(&self, keys: &[u8], call: Call, table: &mut [u8], out: &mut [u8], right: Returned) -> Returned {
+        let number = right.number;
+        match (self.0, call) {
+            (Fault::BackKeepsLater, Call::Back { .. } | Call::BackToMark { .. }) => {
+                table.copy_from_slice(call.table());
+                right
+            }
+            (Fault::BackDropsItsOwn, Call::Back { i, .. }) if number == 0 => {
+                let kept: Vec<Mark> = marks_in(table).into_iter().filter(|mark| mark.version < i).collect();
+                write_marks(&kept, table);
+                right
+            }
+            (Fault::BackLosesOrder, Call::Back { .. } | Call::BackToMark { .. }) if number == 0 && table != call.table() => {
+                let mut kept = marks_in(table);
+                kept.reverse();
+                write_marks(&kept, table);
+                right
+            }
+            (Fault::SetsOverHeld, Call::SetMark { name, i, .. }) if number == 15 && i == 1 => {
+                let mut marks = marks_in(table);
+                let Some(held) = marks.iter_mut().find(|mark| mark.name == name) else { return right };
+                held.version = i;
+                write_marks(&marks, table);
+                refusal(0)
+            }
+            (Fault::SetsAtTheFront, Call::SetMark { .. }) if number == 0 => {
+                let mut marks = marks_in(table);
+                marks.rotate_right(1);
+                write_marks(&marks, table);
+                right
+            }
+            (Fault::FindsAnother, Call::FindMark { .. }) if number == 0 => Returned { version: marks_in(table)[0].version, ..right },
+            (Fault::FindsWhenRefusing, Call::FindMark { .. }) if number == 15 => {
+                let first = marks_in(table).first().map_or(0, |mark| mark.version);
+                Returned { version: first, ..right }
+            }
+            (Fault::RefusalTouchesTable, Call::Back { i, .. }) if number == 14 => {
+                let kept: Vec<Mark> = marks_in(table).into_iter().filter(|mark| mark.version <= i).collect();
+                write_marks(&kept, table);
+                right
+            }
+            (Fault::RefusedSetWrites, Call::SetMark { name, i, .. }) if number == 11 => {
+                let mut marks = marks_in(table);
+                marks.push(Mark { name: name.to_vec(), version: i });
+                write_marks(&marks, table);
+                right
+            }
+            (Fault::FullBeforeHeld, Call::SetMark { .. }) if number == 15 && marks_in(table).len() == 32 => refusal(16),
+            (Fault::LongNameIsTwo, Call::FindMark { name, .. }) if number == 15 && name.len() > 16 => refusal(2),
+            (Fault::NamedBackToFirst, Call::BackToMark { archive, .. }) if number == 0 => {
+                let i = marks_in(call.table())[0].version;
+                out.fill(0);
+                table.copy_from_slice(call.table());
+                Reference.call(keys, Call::Back { archive, table: call.table(), i }, table, out)
+            }
+            (Fault::TakesShortTable, _) if number == 17 && table.len() == TABLE_BYTES - 1 => refusal(0),
+            (Fault::TakesLaterMarks, Call::FindMark { name, .. }) if number == 17 => {
+                let fits = entries(table).is_some_and(|entries| marks::read(&entries, 65_535).is_ok());
+                if fits { found_anyhow(table, name, right) } else { right }
+            }
+            (Fault::ChecksNoTable, Call::FindMark { name, .. }) if number == 17 && table.len() == TABLE_BYTES => found_anyhow(table, name, right),
+            (Fault::TakesNamesTwice, Call::FindMark { name, .. }) if number == 17 && table.len() == TABLE_BYTES => {
+                let all = marks_anyhow(table);
+                let mut distinct = all.clone();
+                distinct.sort_by(|a, b| a.name.cmp(&b.name));
+                distinct.dedup_by(|a, b| a.name == b.name);
+                let fits = marks::read(&marks::table(&distinct), 999).is_ok() && distinct.len() < all.len();
+                if fits { found_anyhow(table, name, right) } else { right }
+            }
+            (Fault::TakesBytesPastNames, Call::Back { .. }) if number == 17 && table.len() == TABLE_BYTES => {
+                let mended = marks::bytes(&marks::table(&marks_anyhow(table)));
+                let fits = marks::read(&entries(&mended).unwrap(), 999).is_ok();
+                if fits && mended != table { put(b"", out) } else { right }
+            }
+            (Fault::ElevenBeforeSeventeen, Call::Back { i, .. }) if number == 17 && !(1..=999).contains(&i) => refusal(11),
+            _ => right,
+        }
+    }
+}
+
+/// Whether a round, of sixty, finds a difference.
+fn is_found(fault: Fault) -> bool {
     let station = Faulty(fault);
     let mut c = Comparison::new(&station);
-    (0..25).for_each(|number| round(&mut c, 7, number));
-    c.differences.len()
+    (0..60).any(|number| {
+        round(&mut c, 7, number);
+        !c.differences.is_empty()
+    })
 }
 
 #[test]
 fn no_fault_no_difference() {
-    assert_eq!(kinds_found(Fault::None), 0);
+    assert!(!is_found(Fault::None));
 }
 
 #[test]
@@ -111,9 +245,12 @@ fn each_fault_is_found() {
     use Fault::*;
     let faults = [
         AddOnlyRaisesN, AddHandsBack, BackHandsBack, HistoryIsAll, HistoryIsEmpty, FixedArchive, RefusesAll, RefusesExactOutput,
-        WritesBeyondTheResult, WritesWhenRefusing, LengthWhenRefusing, TenForEleven, ChecksNoArchive,
+        WritesBeyondTheResult, WritesWhenRefusing, LengthWhenRefusing, TenForEleven, ChecksNoArchive, BackKeepsLater, BackDropsItsOwn,
+        BackLosesOrder, SetsOverHeld, SetsAtTheFront, FindsAnother, FindsWhenRefusing, RefusalTouchesTable, RefusedSetWrites,
+        FullBeforeHeld, LongNameIsTwo, NamedBackToN, NamedBackToFirst, TakesShortTable, TakesLaterMarks, ChecksNoTable, TakesNamesTwice,
+        TakesBytesPastNames, ElevenBeforeSeventeen,
     ];
     for fault in faults {
-        assert!(kinds_found(fault) > 0, "{fault:?}");
+        assert!(is_found(fault), "{fault:?}");
     }
 }

@@ -9,6 +9,7 @@ mod faults;
 pub mod keylists;
 pub mod limits;
 pub mod lists;
+pub mod marks;
 pub mod random;
 pub mod station;
 pub mod versions;

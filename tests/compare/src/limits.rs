@@ -1,7 +1,9 @@
 //! The limits, the worked record and each refusal: the same cases in every run, before the rounds.
 
 use crate::comparison::Comparison;
+use crate::marks::{name_of, table, UNUSED};
 use crate::station::Call;
+use reference::marks::{Mark, ENTRY_BYTES, NAME_BYTES, TABLE_BYTES};
 use reference::shelf::Shelf;
 
 const STATION: &str = "(/, (station, {}))\n(/station, (light, {}))\n(/station, (lamp, {pos}))\n(/station/lamp, (type, {}))\n(/station/lamp, (hours, {}))\n";
@@ -17,6 +19,8 @@ pub fn run(c: &mut Comparison) {
     sizes_of_archives(c);
     archives(c);
     addresses(c);
+    marks(c);
+    tables(c);
 }
 
 fn f(content: &str) -> String {
@@ -35,7 +39,7 @@ fn add(c: &mut Comparison, keys: &str, archive: &[u8], version: &str) -> Vec<u8>
 fn read_all(c: &mut Comparison, keys: &str, archive: &[u8], numbers: &[usize], addresses: &[&str]) {
     for &i in numbers {
         c.ask_each_output(keys.as_bytes(), Call::Retrieve { archive, i });
-        c.ask_each_output(keys.as_bytes(), Call::Back { archive, i });
+        c.ask_each_output(keys.as_bytes(), Call::Back { archive, table: &UNUSED, i });
     }
     for address in addresses {
         c.ask_each_output(keys.as_bytes(), Call::History { archive, address: address.as_bytes() });
@@ -252,6 +256,7 @@ fn numbers_of_versions(c: &mut Comparison) {
             }
             if number == 999 {
                 read_all(c, KEYS, &added.bytes, &[62, 63, 64, 65, 127, 128, 129, 512, 1_000, 1 << 32], &[]);
+                many_versions_marked(c, &added.bytes);
             }
         } else {
             shelf.add(text.as_bytes()).expect("a legal version");
@@ -398,5 +403,127 @@ fn addresses(c: &mut Comparison) {
             read_all(c, &keys, &archive, &[], &[&address, &slashed]);
             read_all(c, &keys, b"bad", &[], &[&address]);
         }
+    }
+}
+
+fn mark(name: &[u8], version: usize) -> Mark {
+    Mark { name: name.to_vec(), version }
+}
+
+/// So many marks, of versions 1 to n by turns.
+fn some_marks(count: usize, n: usize) -> Vec<Mark> {
+    (0..count).map(|number| mark(format!("m{number}").as_bytes(), 1 + number % n)).collect()
+}
+
+/// Each call over a table, with a number or a name.
+fn mark_all(c: &mut Comparison, archive: &[u8], table: &[u8], names: &[&[u8]], numbers: &[usize]) {
+    for &name in names {
+        c.ask_each_output(KEYS.as_bytes(), Call::FindMark { archive, table, name });
+        c.ask_each_output(KEYS.as_bytes(), Call::BackToMark { archive, table, name });
+        for &i in numbers {
+            c.ask_each_output(KEYS.as_bytes(), Call::SetMark { archive, table, name, i });
+        }
+    }
+    for &i in numbers {
+        c.ask_each_output(KEYS.as_bytes(), Call::Back { archive, table, i });
+    }
+}
+
+/// Versions of two bytes, in the archive of 999.
+fn many_versions_marked(c: &mut Comparison, archive: &[u8]) {
+    let held: Vec<Mark> = [999, 1, 255, 256, 257, 511, 512, 768, 998].iter().map(|&version| mark(format!("v{version}").as_bytes(), version)).collect();
+    mark_all(c, archive, &table(&held), &[b"v255", b"v256", b"v999", b"v1", b"v2"], &[0, 255, 256, 512, 998, 999, 1_000, 65_537, usize::MAX]);
+    for version in [1_000, 1_023, 1_024, 65_535] {
+        mark_all(c, archive, &table(&[mark(b"a", version)]), &[b"a"], &[1]);
+    }
+}
+
+/// Numbers of marks, names, and the order of the refusals, with an archive of three versions.
+fn marks(c: &mut Comparison) {
+    let archive = &shelf_of(&[f("x"), f("y"), "<s/>".into()]);
+    let numbers = [0, 1, 2, 3, 4, 256, 257, 65_536, 65_537, 1 << 32, (1 << 32) + 1, usize::MAX];
+    for count in [0, 1, 2, 30, 31, 32] {
+        let table = table(&some_marks(count, 3));
+        mark_all(c, archive, &table, &[b"m0", b"m1", b"m30", b"m31", b"m32", b"", b"m 1", b"m"], &numbers);
+        // 17 goes before 11 and 15 where a mark's version is past n; 10 before 17, 3 and 4 before 10.
+        mark_all(c, &shelf_of(&[f("x")]), &table, &[b"m0", b""], &[0, 1]);
+        mark_all(c, b"", &table, &[b"m0", b""], &[0, 1]);
+        for keys in ["", "(/, (T, {}))\n"] {
+            c.ask_each_output(keys.as_bytes(), Call::SetMark { archive: b"", table: &table, name: b"", i: 0 });
+            c.ask_each_output(keys.as_bytes(), Call::FindMark { archive: b"", table: &table, name: b"" });
+            c.ask_each_output(keys.as_bytes(), Call::BackToMark { archive: b"", table: &[], name: b"" });
+        }
+    }
+    for size in [32_768, 32_769] {
+        mark_all(c, &vec![b' '; size], &UNUSED, &[b"a"], &[1]);
+    }
+    for length in (0..20).chain([31, 32, 33, 255, 256, 257, 272, 512, 4_097, 65_536, 65_537]) {
+        let name = name_of(length);
+        mark_all(c, archive, &UNUSED, &[&name], &[1]);
+        let held = [mark(b"first", 1), mark(&name[..length.min(NAME_BYTES)], 2)];
+        if length > 0 {
+            mark_all(c, archive, &table(&held), &[&name, &name[..length - 1]], &[1, 3]);
+        }
+    }
+    for byte in 0..=255u8 {
+        let held = table(&[mark(b"a", 1), mark(&[b'a', byte], 2), mark(&[byte], 3)]);
+        mark_all(c, archive, &UNUSED, &[&[byte], &[b'a', byte], &[byte; 16]], &[2]);
+        mark_all(c, archive, &held, &[&[byte], &[b'a', byte]], &[2]);
+    }
+}
+
+/// Tables that break a rule, clause by clause and byte by byte.
+fn tables(c: &mut Comparison) {
+    let archive = &shelf_of(&[f("x"), f("y")]);
+    let ask = |c: &mut Comparison, table: &[u8]| mark_all(c, archive, table, &[b"m0", b"new"], &[1]);
+    let full = table(&some_marks(32, 2));
+    for length in [0, 1, 18, 19, 20, 303, 304, 588, 589, 590, 606, 607, 608, 609, 610, 627, 1_216, 4_864] {
+        for table in [&UNUSED[..], &full] {
+            ask(c, &table.iter().copied().cycle().take(length).collect::<Vec<u8>>());
+            ask(c, &table.iter().copied().chain(std::iter::repeat(0)).take(length).collect::<Vec<u8>>());
+        }
+    }
+    // One byte of a table, of no mark, of two and of 32, changed.
+    for marks in [0, 2, 32] {
+        let legal = table(&some_marks(marks, 2));
+        for at in 0..TABLE_BYTES {
+            for by in [1, 32, 255] {
+                let mut table = legal.clone();
+                table[at] = table[at].wrapping_add(by);
+                c.ask_each_output(KEYS.as_bytes(), Call::FindMark { archive, table: &table, name: b"m1" });
+                c.ask_each_output(KEYS.as_bytes(), Call::Back { archive, table: &table, i: 1 });
+            }
+        }
+    }
+    // A name twice: each pair of entries; a gap at each.
+    for second in 1..32 {
+        for first in [0, second / 2, second - 1] {
+            let mut marks = some_marks(32, 2);
+            marks[second].name = marks[first].name.clone();
+            ask(c, &table(&marks));
+        }
+        let mut gap = full.clone();
+        gap[(second - 1) * ENTRY_BYTES..second * ENTRY_BYTES].fill(0);
+        ask(c, &gap);
+        gap[second * ENTRY_BYTES..].fill(0);
+        ask(c, &gap);
+    }
+    for version in [0, 1, 2, 3, 255, 256, 257, 258, 512, 999, 65_535] {
+        ask(c, &table(&[mark(b"m0", 1), mark(b"m1", version)]));
+        ask(c, &table(&[mark(b"m0", version)]));
+    }
+    // The lengths beside names of 1, 2 and 16 bytes; bytes past a name.
+    for name in [&b"a"[..], b"ab", b"abcdefghijklmnop", b"a\0", b"\0a", b"a\0b", b"\0"] {
+        for length in [0, 1, 2, 3, 15, 16, 17, 255] {
+            let mut one = table(&[mark(name, 1)]);
+            one[NAME_BYTES] = length;
+            ask(c, &one);
+        }
+    }
+    // All marks dropped, or none, whatever their order.
+    for versions in [[1, 1, 1], [2, 2, 2], [1, 2, 1], [2, 1, 2], [2, 2, 1], [1, 1, 2]] {
+        let marks: Vec<Mark> = (0..32).map(|number| mark(format!("m{number}").as_bytes(), versions[number % 3])).collect();
+        mark_all(c, archive, &table(&marks), &[b"m0", b"m1", b"m2", b"m31"], &[1, 2]);
+        mark_all(c, archive, &table(&marks[..3]), &[b"m0", b"m1", b"m2", b"m3"], &[1, 2]);
     }
 }

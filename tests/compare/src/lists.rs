@@ -4,15 +4,17 @@ use crate::addresses;
 use crate::archives;
 use crate::comparison::Comparison;
 use crate::keylists::{self, Keys, Line};
+use crate::marks;
 use crate::random::Random;
-use crate::station::Call;
+use crate::station::{Call, Expected};
 use crate::versions::{self, Tree};
 use reference::shelf::Shelf;
 
-/// What a list has come to: the archive, the shelf, and the versions' trees (for addresses and
-/// as models of later versions; they may not tell what is on the shelf exactly).
+/// What a list has come to: the archive, the table of marks, the shelf, and the versions' trees (for
+/// addresses and as models of later versions; they may not tell what is on the shelf exactly).
 struct Standing {
     archive: Vec<u8>,
+    table: Vec<u8>,
     shelf: Shelf,
     trees: Vec<Tree>,
 }
@@ -39,10 +41,14 @@ pub fn round(c: &mut Comparison, r: &mut Random) {
     for _ in 0..12 {
         near(c, r, &keys, &standing);
     }
+    for _ in 0..12 {
+        near_table(c, r, &keys, &standing);
+    }
 }
 
-/// A list of calls: the founding, adds and steps back, refused ones between them, then retrievals
-/// and histories. After each call that was not refused, the result is measured against the shelf.
+/// A list of calls: the founding, adds, marks set, steps back by number and by name, refused ones
+/// between them, then retrievals and histories. After each call that was not refused, result and
+/// table are measured against the shelf.
 fn list(c: &mut Comparison, r: &mut Random, keys: &Keys, model: Tree) -> Option<Standing> {
     let text = versions::spelled(r, keys, &model);
     let call = Call::Found { version: &text };
@@ -52,9 +58,9 @@ fn list(c: &mut Comparison, r: &mut Random, keys: &Keys, model: Tree) -> Option<
     }
     let shelf = Shelf::found(&keys.text, &text).expect("a founding that succeeded");
     c.shelf_gives(&keys.text, call, &founded.bytes, &shelf.archive());
-    let mut standing = Standing { archive: founded.bytes, shelf, trees: vec![model] };
-    for _ in 0..r.choose(&[0, 2, 4, 8, 12]) {
-        match r.below(20) {
+    let mut standing = Standing { archive: founded.bytes, table: shelf.table(), shelf, trees: vec![model] };
+    for _ in 0..r.choose(&[0, 2, 4, 8, 12, 16]) {
+        match r.below(30) {
             0..=12 => {
                 let earlier = r.pick(&standing.trees).clone();
                 let latest = standing.trees.last().unwrap();
@@ -77,10 +83,13 @@ fn list(c: &mut Comparison, r: &mut Random, keys: &Keys, model: Tree) -> Option<
                 let i = 1 + r.below(standing.shelf.count());
                 back(c, r, keys, &mut standing, i);
             }
-            _ => {
+            18 | 19 => {
                 let i = any_number(r, standing.shelf.count());
                 back(c, r, keys, &mut standing, i);
             }
+            20 | 21 => back_to_mark(c, r, keys, &mut standing),
+            22 if r.chance(10) => (0..33).for_each(|_| set_mark(c, r, keys, &mut standing)),
+            _ => set_mark(c, r, keys, &mut standing),
         }
     }
     read_back(c, r, keys, &standing);
@@ -105,20 +114,59 @@ fn add(c: &mut Comparison, r: &mut Random, keys: &Keys, standing: &mut Standing,
 }
 
 fn back(c: &mut Comparison, r: &mut Random, keys: &Keys, standing: &mut Standing, i: usize) {
-    let call = Call::Back { archive: &standing.archive, i };
+    let (archive, table) = (standing.archive.clone(), standing.table.clone());
+    let call = Call::Back { archive: &archive, table: &table, i };
     let stepped = c.ask(r, &keys.text, call);
     if stepped.number == 0 {
         standing.shelf.back(i);
-        c.shelf_gives(&keys.text, call, &stepped.bytes, &standing.shelf.archive());
-        standing.archive = stepped.bytes;
-        standing.trees.truncate(i);
+        hand_on(c, keys, standing, call, stepped);
     }
 }
 
-/// Retrievals and histories of what stands.
+fn back_to_mark(c: &mut Comparison, r: &mut Random, keys: &Keys, standing: &mut Standing) {
+    let (archive, table) = (standing.archive.clone(), standing.table.clone());
+    let name = marks::any_name(r, &table);
+    let call = Call::BackToMark { archive: &archive, table: &table, name: &name };
+    let stepped = c.ask(r, &keys.text, call);
+    if stepped.number == 0 {
+        standing.shelf.back_to_mark(&name);
+        hand_on(c, keys, standing, call, stepped);
+    }
+}
+
+/// What a step back gave is lent to the next call; it is what the shelf gives.
+fn hand_on(c: &mut Comparison, keys: &Keys, standing: &mut Standing, call: Call, stepped: Expected) {
+    c.shelf_gives(&keys.text, call, &stepped.bytes, &standing.shelf.archive());
+    c.shelf_gives(&keys.text, call, &stepped.table, &standing.shelf.table());
+    standing.archive = stepped.bytes;
+    standing.table = stepped.table;
+    standing.trees.truncate(standing.shelf.count());
+}
+
+fn set_mark(c: &mut Comparison, r: &mut Random, keys: &Keys, standing: &mut Standing) {
+    let n = standing.shelf.count();
+    let name = if r.chance(75) { marks::name(r) } else { marks::any_name(r, &standing.table) };
+    let i = if r.chance(85) { 1 + r.below(n) } else { any_number(r, n) };
+    let call = Call::SetMark { archive: &standing.archive, table: &standing.table, name: &name, i };
+    let set = c.ask(r, &keys.text, call);
+    if set.number == 0 {
+        standing.shelf.set_mark(&name, i);
+        c.shelf_gives(&keys.text, call, &set.table, &standing.shelf.table());
+        standing.table = set.table;
+    }
+}
+
+/// Retrievals, histories and marks of what stands.
 fn read_back(c: &mut Comparison, r: &mut Random, keys: &Keys, standing: &Standing) {
     let archive = &standing.archive;
     let n = standing.shelf.count();
+    for _ in 0..3 {
+        let name = marks::any_name(r, &standing.table);
+        let call = Call::FindMark { archive, table: &standing.table, name: &name };
+        let found = c.ask(r, &keys.text, call);
+        let [found, shelfs] = [found.version, standing.shelf.version_of(&name)].map(|version| version.to_string());
+        c.shelf_gives(&keys.text, call, found.as_bytes(), shelfs.as_bytes());
+    }
     for _ in 0..3 {
         let i = 1 + r.below(n);
         let call = Call::Retrieve { archive, i };
@@ -149,7 +197,7 @@ fn near(c: &mut Comparison, r: &mut Random, keys: &Keys, standing: &Standing) {
     let key_list = if r.chance(96) { keys.text.clone() } else { keylists::damaged(r, keys) };
     let i = if r.chance(80) { 1 + r.below(n) } else { any_number(r, n) };
     let tree = r.pick(&standing.trees);
-    match r.below(4) {
+    match r.below(5) {
         0 => {
             let version = if r.chance(90) { versions::spelled(r, keys, tree) } else { versions::damaged(r, keys, tree) };
             c.ask(r, &key_list, Call::Add { archive: &archive, version: &version });
@@ -164,10 +212,39 @@ fn near(c: &mut Comparison, r: &mut Random, keys: &Keys, standing: &Standing) {
             }
             c.ask(r, &key_list, Call::History { archive: &archive, address: &address });
         }
+        3 => {
+            c.ask(r, &key_list, Call::Back { archive: &archive, table: &marks::UNUSED, i });
+        }
         _ => {
-            c.ask(r, &key_list, Call::Back { archive: &archive, i });
+            let table = marks::legal(r, n);
+            ask_marks(c, r, &key_list, &archive, &table, i);
         }
     }
+}
+
+/// A call with a legal archive and a table of marks that may be damaged.
+fn near_table(c: &mut Comparison, r: &mut Random, keys: &Keys, standing: &Standing) {
+    let n = standing.shelf.count();
+    let mut table = if r.chance(80) { marks::legal(r, n) } else { standing.table.clone() };
+    if r.chance(60) {
+        table = marks::damaged(r, &table, n);
+    }
+    let i = if r.chance(80) { 1 + r.below(n) } else { any_number(r, n) };
+    ask_marks(c, r, &keys.text, &standing.archive, &table, i);
+}
+
+/// One of the calls that take a table.
+fn ask_marks(c: &mut Comparison, r: &mut Random, keys: &[u8], archive: &[u8], table: &[u8], i: usize) {
+    let any = marks::any_name(r, table);
+    let new = marks::name(r);
+    let call = match r.below(5) {
+        0 => Call::Back { archive, table, i },
+        1 => Call::BackToMark { archive, table, name: &any },
+        2 => Call::FindMark { archive, table, name: &any },
+        3 => Call::SetMark { archive, table, name: &any, i },
+        _ => Call::SetMark { archive, table, name: &new, i },
+    };
+    c.ask(r, keys, call);
 }
 
 fn line(context: &str, name: &str, keys: &[&str]) -> Line {
@@ -194,7 +271,7 @@ fn heavy(c: &mut Comparison, r: &mut Random) {
     let founded = c.ask(r, &keys.text, call);
     let shelf = Shelf::found(&keys.text, &text).unwrap();
     c.shelf_gives(&keys.text, call, &founded.bytes, &shelf.archive());
-    let mut standing = Standing { archive: founded.bytes, shelf, trees: vec![tree] };
+    let mut standing = Standing { archive: founded.bytes, table: shelf.table(), shelf, trees: vec![tree] };
     let by_nodes = r.chance(50);
     for number in 0..8 {
         let mut tree = versions::legal(r, &keys);
@@ -230,9 +307,11 @@ fn heavy(c: &mut Comparison, r: &mut Random) {
         let tree = standing.trees[0].clone();
         add(c, r, &keys, &mut standing, text, tree);
     }
+    (0..r.below(5)).for_each(|_| set_mark(c, r, &keys, &mut standing));
     read_back(c, r, &keys, &standing);
     for _ in 0..3 {
         near(c, r, &keys, &standing);
+        near_table(c, r, &keys, &standing);
     }
     let i = 1 + r.below(standing.shelf.count());
     back(c, r, &keys, &mut standing, i);
@@ -260,7 +339,7 @@ fn long(c: &mut Comparison, r: &mut Random) {
         kept.push(tree);
     }
     let Some(shelf) = shelf else { return };
-    let mut standing = Standing { archive: shelf.archive(), shelf, trees: kept };
+    let mut standing = Standing { archive: shelf.archive(), table: shelf.table(), shelf, trees: kept };
     if standing.archive.len() > 32_768 || standing.shelf.archive_nodes() > 1_024 {
         return;
     }
@@ -269,9 +348,11 @@ fn long(c: &mut Comparison, r: &mut Random) {
         let text = versions::spelled(r, &keys, &tree);
         add(c, r, &keys, &mut standing, text, tree);
     }
+    (0..r.below(5)).for_each(|_| set_mark(c, r, &keys, &mut standing));
     read_back(c, r, &keys, &standing);
     for _ in 0..3 {
         near(c, r, &keys, &standing);
+        near_table(c, r, &keys, &standing);
     }
     let i = 1 + r.below(standing.shelf.count());
     back(c, r, &keys, &mut standing, i);

@@ -1,8 +1,9 @@
-//! The station: an implementation of the six calls that is compared with the reference.
+//! The station: an implementation of the calls that is compared with the reference.
 
 use reference::{Answer, WORK_CELLS};
 
-/// One of the six calls with its arguments, besides the key list and the output.
+/// A call with its arguments, besides the key list and the output. A table of marks is its bytes, as
+/// they are lent: 608 if it is of 32 entries.
 #[derive(Clone, Copy)]
 pub enum Call<'a> {
     CheckKeys,
@@ -10,12 +11,15 @@ pub enum Call<'a> {
     Add { archive: &'a [u8], version: &'a [u8] },
     Retrieve { archive: &'a [u8], i: usize },
     History { archive: &'a [u8], address: &'a [u8] },
-    Back { archive: &'a [u8], i: usize },
+    Back { archive: &'a [u8], table: &'a [u8], i: usize },
+    BackToMark { archive: &'a [u8], table: &'a [u8], name: &'a [u8] },
+    SetMark { archive: &'a [u8], table: &'a [u8], name: &'a [u8], i: usize },
+    FindMark { archive: &'a [u8], table: &'a [u8], name: &'a [u8] },
 }
 
-pub const CALLS: [&str; 6] = ["check_keys", "found", "add", "retrieve", "history", "back"];
+pub const CALLS: [&str; 9] = ["check_keys", "found", "add", "retrieve", "history", "back", "back_to_mark", "set_mark", "find_mark"];
 
-impl Call<'_> {
+impl<'a> Call<'a> {
     pub fn index(&self) -> usize {
         match self {
             Call::CheckKeys => 0,
@@ -24,27 +28,78 @@ impl Call<'_> {
             Call::Retrieve { .. } => 3,
             Call::History { .. } => 4,
             Call::Back { .. } => 5,
+            Call::BackToMark { .. } => 6,
+            Call::SetMark { .. } => 7,
+            Call::FindMark { .. } => 8,
         }
+    }
+
+    pub fn has_output(&self) -> bool {
+        !matches!(self, Call::CheckKeys | Call::SetMark { .. } | Call::FindMark { .. })
+    }
+
+    /// The table that is lent; none is no bytes.
+    pub fn table(&self) -> &'a [u8] {
+        match *self {
+            Call::Back { table, .. } | Call::BackToMark { table, .. } | Call::SetMark { table, .. } | Call::FindMark { table, .. } => table,
+            _ => &[],
+        }
+    }
+}
+
+/// What a station returns; the version is that of the mark found, 0 of every other call.
+#[derive(Clone, Copy, Debug, PartialEq, Eq)]
+pub struct Returned {
+    pub number: u32,
+    pub length: usize,
+    pub version: usize,
+}
+
+impl Returned {
+    /// Of a call that finds no version.
+    pub fn plain((number, length): (u32, usize)) -> Returned {
+        Returned { number, length, version: 0 }
     }
 }
 
 pub trait Station {
     fn name(&self) -> &'static str;
 
-    /// Number and length; the result goes to the output's first bytes.
-    fn call(&self, keys: &[u8], call: Call, out: &mut [u8]) -> (u32, usize);
+    /// `table` has the bytes of the call's own and is what the station is lent: it holds the marks
+    /// at exit. The result goes to the output's first bytes.
+    fn call(&self, keys: &[u8], call: Call, table: &mut [u8], out: &mut [u8]) -> Returned;
+}
+
+/// What is expected of a call: the result, the table at exit, and the version found.
+#[derive(Clone)]
+pub struct Expected {
+    pub number: u32,
+    pub bytes: Vec<u8>,
+    pub table: Vec<u8>,
+    pub version: usize,
 }
 
 /// The reference's answer to a call.
-pub fn answer(keys: &[u8], call: Call, out_len: usize) -> Answer {
-    match call {
+pub fn answer(keys: &[u8], call: Call, out_len: usize) -> Expected {
+    let mut lent = call.table().to_vec();
+    let table = &mut lent;
+    let mut version = 0;
+    let Answer { number, bytes } = match call {
         Call::CheckKeys => reference::check_keys(keys, WORK_CELLS),
         Call::Found { version } => reference::found(keys, version, out_len, WORK_CELLS),
         Call::Add { archive, version } => reference::add(keys, archive, version, out_len, WORK_CELLS),
         Call::Retrieve { archive, i } => reference::retrieve(keys, archive, i, out_len, WORK_CELLS),
         Call::History { archive, address } => reference::history(keys, archive, address, out_len, WORK_CELLS),
-        Call::Back { archive, i } => reference::back(keys, archive, i, out_len, WORK_CELLS),
-    }
+        Call::Back { archive, i, .. } => reference::back(keys, archive, table, i, out_len, WORK_CELLS),
+        Call::BackToMark { archive, name, .. } => reference::back_to_mark(keys, archive, table, name, out_len, WORK_CELLS),
+        Call::SetMark { archive, name, i, .. } => reference::set_mark(keys, archive, table, name, i, WORK_CELLS),
+        Call::FindMark { archive, name, .. } => {
+            let (answer, found) = reference::find_mark(keys, archive, table, name, WORK_CELLS);
+            version = found;
+            answer
+        }
+    };
+    Expected { number, bytes, table: lent, version }
 }
 
 /// The reference itself as the station: the generators can be run without a library.
@@ -56,17 +111,18 @@ impl Station for Reference {
         "the reference itself"
     }
 
-    fn call(&self, keys: &[u8], call: Call, out: &mut [u8]) -> (u32, usize) {
+    fn call(&self, keys: &[u8], call: Call, table: &mut [u8], out: &mut [u8]) -> Returned {
         let answer = answer(keys, call, out.len());
         out[..answer.bytes.len()].copy_from_slice(&answer.bytes);
-        (answer.number, answer.bytes.len())
+        table.copy_from_slice(&answer.table);
+        Returned { number: answer.number, length: answer.bytes.len(), version: answer.version }
     }
 }
 
-/// The static library behind the six C entries.
+/// The static library behind the C entries.
 #[cfg(feature = "library")]
 pub mod library {
-    use super::{Call, Station};
+    use super::{Call, Returned, Station};
 
     #[rustfmt::skip]
     extern "C" {
@@ -80,7 +136,15 @@ pub mod library {
         fn archive_history(keys: *const u8, keys_len: usize, archive: *const u8, archive_len: usize,
             address: *const u8, address_len: usize, out: *mut u8, out_len: usize, length: *mut usize) -> u32;
         fn archive_back(keys: *const u8, keys_len: usize, archive: *const u8, archive_len: usize,
-            i: usize, out: *mut u8, out_len: usize, length: *mut usize) -> u32;
+            marks: *mut u8, marks_len: usize, i: usize, out: *mut u8, out_len: usize, length: *mut usize) -> u32;
+        fn archive_back_to_mark(keys: *const u8, keys_len: usize, archive: *const u8, archive_len: usize,
+            marks: *mut u8, marks_len: usize, name: *const u8, name_len: usize,
+            out: *mut u8, out_len: usize, length: *mut usize) -> u32;
+        fn archive_set_mark(keys: *const u8, keys_len: usize, archive: *const u8, archive_len: usize,
+            marks: *mut u8, marks_len: usize, name: *const u8, name_len: usize, i: usize, length: *mut usize) -> u32;
+        fn archive_find_mark(keys: *const u8, keys_len: usize, archive: *const u8, archive_len: usize,
+            marks: *const u8, marks_len: usize, name: *const u8, name_len: usize,
+            version: *mut usize, length: *mut usize) -> u32;
     }
 
     pub struct Library;
@@ -90,12 +154,15 @@ pub mod library {
             "the library libfirmware.a"
         }
 
-        fn call(&self, keys: &[u8], call: Call, out: &mut [u8]) -> (u32, usize) {
+        fn call(&self, keys: &[u8], call: Call, table: &mut [u8], out: &mut [u8]) -> Returned {
             let (k, kl) = (keys.as_ptr(), keys.len());
+            let (m, ml) = (table.as_mut_ptr(), table.len());
             let (o, ol) = (out.as_mut_ptr(), out.len());
-            // A value that no call returns: the entry has to write the length.
+            // Values that no call gives: the entry has to write the length, and the version if it finds one.
             let mut length = usize::MAX;
             let l = &mut length as *mut usize;
+            let mut version = if matches!(call, Call::FindMark { .. }) { usize::MAX } else { 0 };
+            let v = &mut version as *mut usize;
             // Each pointer and length are those of a living slice.
             let number = unsafe {
                 match call {
@@ -108,10 +175,19 @@ pub mod library {
                     Call::History { archive, address } => {
                         archive_history(k, kl, archive.as_ptr(), archive.len(), address.as_ptr(), address.len(), o, ol, l)
                     }
-                    Call::Back { archive, i } => archive_back(k, kl, archive.as_ptr(), archive.len(), i, o, ol, l),
+                    Call::Back { archive, i, .. } => archive_back(k, kl, archive.as_ptr(), archive.len(), m, ml, i, o, ol, l),
+                    Call::BackToMark { archive, name, .. } => {
+                        archive_back_to_mark(k, kl, archive.as_ptr(), archive.len(), m, ml, name.as_ptr(), name.len(), o, ol, l)
+                    }
+                    Call::SetMark { archive, name, i, .. } => {
+                        archive_set_mark(k, kl, archive.as_ptr(), archive.len(), m, ml, name.as_ptr(), name.len(), i, l)
+                    }
+                    Call::FindMark { archive, name, .. } => {
+                        archive_find_mark(k, kl, archive.as_ptr(), archive.len(), m, ml, name.as_ptr(), name.len(), v, l)
+                    }
                 }
             };
-            (number, length)
+            Returned { number, length, version }
         }
     }
 }

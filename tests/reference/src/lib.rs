@@ -1,4 +1,5 @@
-//! The station archive of document 01, a second implementation, by the definitions.
+//! The station archive of document 01, with document 02's marks: a second implementation, by the
+//! definitions.
 //!
 //! The archive is computed from the list of versions, never by merging. A text is a legal
 //! archive exactly if it is the archive of the only versions that it can be the archive of.
@@ -7,6 +8,7 @@
 pub mod address;
 pub mod archive;
 pub mod keys;
+pub mod marks;
 pub mod shelf;
 pub mod timestamp;
 pub mod version;
@@ -14,6 +16,8 @@ pub mod written;
 pub mod xml;
 
 use keys::KeyList;
+use marks::Mark;
+use version::Element;
 use written::Written;
 
 /// What a call returns: number 0 and the result, or a refusal's number and no bytes.
@@ -95,17 +99,59 @@ pub fn history(keys: &[u8], archive: &[u8], address: &[u8], out_len: usize, work
     })
 }
 
-/// Step back to version i.
-pub fn back(keys: &[u8], archive: &[u8], i: usize, out_len: usize, work_len: usize) -> Answer {
+/// Set a mark: the name stands for version i from here on. A table is lent as its bytes, 608 if it
+/// is of 32 entries; a refusal leaves it untouched.
+pub fn set_mark(keys: &[u8], archive: &[u8], table: &mut [u8], name: &[u8], i: usize, work_len: usize) -> Answer {
     answer(|| {
-        lent(work_len, &[(keys, KEY_LIST_BYTES), (archive, ARCHIVE_BYTES)])?;
-        let keys = KeyList::read(keys)?;
-        let versions = archive::versions(&keys, archive)?;
+        let (_, versions, mut marks) = lent_marks(keys, archive, table, work_len)?;
+        marks::set(&mut marks, name, i, versions.len())?;
+        table.copy_from_slice(&marks::bytes(&marks::table(&marks)));
+        Ok(vec![])
+    })
+}
+
+/// Find a mark: also gives the version, 0 when refused.
+pub fn find_mark(keys: &[u8], archive: &[u8], table: &[u8], name: &[u8], work_len: usize) -> (Answer, usize) {
+    let version = lent_marks(keys, archive, table, work_len).and_then(|(_, _, marks)| marks::find(&marks, name));
+    (answer(|| version.map(|_| vec![])), version.unwrap_or(0))
+}
+
+/// Step back to version i.
+pub fn back(keys: &[u8], archive: &[u8], table: &mut [u8], i: usize, out_len: usize, work_len: usize) -> Answer {
+    answer(|| {
+        let (keys, versions, marks) = lent_marks(keys, archive, table, work_len)?;
         if i < 1 || i > versions.len() {
             return Err(11);
         }
-        into_output(archive::archive(&keys, &versions[..i]), out_len)
+        step_back(&keys, &versions[..i], marks, table, out_len)
     })
+}
+
+/// Step back to the version of a mark.
+pub fn back_to_mark(keys: &[u8], archive: &[u8], table: &mut [u8], name: &[u8], out_len: usize, work_len: usize) -> Answer {
+    answer(|| {
+        let (keys, versions, marks) = lent_marks(keys, archive, table, work_len)?;
+        let i = marks::find(&marks, name)?;
+        step_back(&keys, &versions[..i], marks, table, out_len)
+    })
+}
+
+/// The archive of the versions that are kept; the table loses the marks of the others.
+fn step_back(keys: &KeyList, kept: &[Element], mut marks: Vec<Mark>, table: &mut [u8], out_len: usize) -> Outcome<Vec<u8>> {
+    let result = into_output(archive::archive(keys, kept), out_len)?;
+    marks::drop_later(&mut marks, kept.len());
+    table.copy_from_slice(&marks::bytes(&marks::table(&marks)));
+    Ok(result)
+}
+
+/// 1 to 4, 10 and 17: what a call over a key list, an archive and a table is lent.
+fn lent_marks(keys: &[u8], archive: &[u8], table: &[u8], work_len: usize) -> Outcome<(KeyList, Vec<Element>, Vec<Mark>)> {
+    lent(work_len, &[(keys, KEY_LIST_BYTES), (archive, ARCHIVE_BYTES)])?;
+    let keys = KeyList::read(keys)?;
+    let versions = archive::versions(&keys, archive)?;
+    let table = marks::entries(table).ok_or(17u32)?;
+    let marks = marks::read(&table, versions.len())?;
+    Ok((keys, versions, marks))
 }
 
 fn answer(call: impl FnOnce() -> Outcome<Vec<u8>>) -> Answer {

@@ -1,21 +1,23 @@
 //! The versions standing: the shelf that demand 3 measures the archive against.
 
 use crate::keys::KeyList;
+use crate::marks::{self, Mark};
 use crate::version::{self, Element};
 use crate::{address, archive, Outcome};
 
-/// A plain list of received versions, numbered from 1, under a key list.
+/// A plain list of received versions, numbered from 1, under a key list, and a plain list of marks.
 pub struct Shelf {
     keys: KeyList,
     versions: Vec<Element>,
+    marks: Vec<Mark>,
 }
 
 impl Shelf {
-    /// Begins with a founding that succeeded.
+    /// Begins with a founding that succeeded, and with no mark.
     pub fn found(keys: &[u8], version: &[u8]) -> Outcome<Shelf> {
         let keys = KeyList::read(keys)?;
         let versions = vec![version::read(&keys, version)?];
-        Ok(Shelf { keys, versions })
+        Ok(Shelf { keys, versions, marks: vec![] })
     }
 
     /// An add that succeeded puts the version received at the end.
@@ -24,9 +26,30 @@ impl Shelf {
         Ok(())
     }
 
-    /// A step back to i that succeeded keeps the first i.
+    /// A setting that succeeded puts the mark at the end.
+    pub fn set_mark(&mut self, name: &[u8], i: usize) {
+        self.marks.push(Mark { name: name.to_vec(), version: i });
+    }
+
+    /// A step back to i that succeeded keeps the first i, and the marks of these.
     pub fn back(&mut self, i: usize) {
         self.versions.truncate(i);
+        self.marks.retain(|mark| mark.version <= i);
+    }
+
+    /// A step back by name that succeeded is one by that mark's number.
+    pub fn back_to_mark(&mut self, name: &[u8]) {
+        self.back(self.version_of(name));
+    }
+
+    /// The version of a mark; 0 if none has the name.
+    pub fn version_of(&self, name: &[u8]) -> usize {
+        self.marks.iter().find(|mark| mark.name == name).map_or(0, |mark| mark.version)
+    }
+
+    /// The table of the shelf's marks, as C passes it.
+    pub fn table(&self) -> Vec<u8> {
+        marks::bytes(&marks::table(&self.marks))
     }
 
     pub fn count(&self) -> usize {

@@ -1,7 +1,8 @@
 //! The limits: sizes, nodes, depth, versions, output.
 
+use reference::marks::TABLE_BYTES;
 use reference::shelf::Shelf;
-use reference::{add, back, check_keys, found, history, retrieve, WORK_CELLS};
+use reference::{add, back_to_mark, check_keys, find_mark, found, history, retrieve, set_mark, Answer, WORK_CELLS};
 
 const KEYS: &[u8] = b"(/, (s, {}))\n(/s, (f, {}))\n(/s, (g, {}))\n";
 
@@ -11,6 +12,11 @@ fn founds(version: &str) -> u32 {
 
 fn f(content: &str) -> String {
     format!("<s><f>{content}</f></s>")
+}
+
+/// Stepping back with a table of unused entries.
+fn back(archive: &[u8], i: usize, out_len: usize) -> Answer {
+    reference::back(KEYS, archive, &mut [0; TABLE_BYTES], i, out_len, WORK_CELLS)
 }
 
 fn shelf(keys: &[u8], versions: &[String]) -> Shelf {
@@ -68,12 +74,15 @@ fn output_exact_and_one_byte_short() {
     let version = f("x").into_bytes();
     let archive = found(KEYS, &version, 40_000, WORK_CELLS).bytes;
     let two = add(KEYS, &archive, b"<s/>", 40_000, WORK_CELLS).bytes;
-    let calls: [&dyn Fn(usize) -> reference::Answer; 5] = [
+    let mut table = [0; TABLE_BYTES];
+    assert_eq!(set_mark(KEYS, &two, &mut table, b"one", 1, WORK_CELLS).number, 0);
+    let calls: [&dyn Fn(usize) -> Answer; 6] = [
         &|out| found(KEYS, &version, out, WORK_CELLS),
         &|out| add(KEYS, &archive, b"<s/>", out, WORK_CELLS),
         &|out| retrieve(KEYS, &two, 1, out, WORK_CELLS),
         &|out| history(KEYS, &two, b"/s", out, WORK_CELLS),
-        &|out| back(KEYS, &two, 1, out, WORK_CELLS),
+        &|out| back(&two, 1, out),
+        &|out| back_to_mark(KEYS, &two, &mut table.clone(), b"one", out, WORK_CELLS),
     ];
     for call in calls {
         let result = call(40_000);
@@ -99,11 +108,34 @@ fn versions_999_and_1000() {
     assert_eq!(add(KEYS, &last.bytes, b"<s/>", 0, WORK_CELLS).number, 11);
     assert_eq!(retrieve(KEYS, &last.bytes, 999, 40_000, WORK_CELLS).bytes, f("y").as_bytes());
     assert_eq!(retrieve(KEYS, &last.bytes, 1_000, 40_000, WORK_CELLS).number, 11);
-    assert_eq!(back(KEYS, &last.bytes, 998, 40_000, WORK_CELLS).bytes, archive);
+    assert_eq!(back(&last.bytes, 998, 40_000).bytes, archive);
     assert_eq!(history(KEYS, &last.bytes, b"/s", 40_000, WORK_CELLS).bytes, b"1-999");
     let odd: Vec<String> = (1..=999).step_by(2).map(|i| i.to_string()).collect();
     assert_eq!(history(KEYS, &last.bytes, b"/s/f", 40_000, WORK_CELLS).bytes, odd.join(",").as_bytes());
-    assert_eq!(back(KEYS, b"<T t=\"1-1000\"><s></s></T>", 1, 40_000, WORK_CELLS).number, 10);
+    assert_eq!(back(b"<T t=\"1-1000\"><s></s></T>", 1, 40_000).number, 10);
+}
+
+#[test]
+fn marks_32_and_33_of_versions_to_999() {
+    let archive = b"<T t=\"1-999\"><s></s></T>";
+    let mut table = [0; TABLE_BYTES];
+    let mut set = |name: String, i: usize| set_mark(KEYS, archive, &mut table, name.as_bytes(), i, WORK_CELLS).number;
+    assert_eq!(set("m".into(), 1_000), 11);
+    for number in 0..32 {
+        assert_eq!(set(format!("m{number}"), 999 - number), 0);
+    }
+    assert_eq!((set("m32".into(), 1), set("m32".into(), 0)), (16, 16));
+    // A name that is held, or illegal, is 15 though 32 are held.
+    assert_eq!((set("m31".into(), 1), set("m 32".into(), 1)), (15, 15));
+    for number in 0..32 {
+        let found = find_mark(KEYS, archive, &table, format!("m{number}").as_bytes(), WORK_CELLS);
+        assert_eq!((found.0.number, found.0.bytes.len(), found.1), (0, 0, 999 - number));
+    }
+    // Sixteen marks are of versions later than 983.
+    assert_eq!(back_to_mark(KEYS, archive, &mut table, b"m16", 40_000, WORK_CELLS).bytes, b"<T t=\"1-983\"><s></s></T>");
+    assert_eq!(&table[..3], b"m16");
+    assert_eq!(table[16..19], [3, 215, 3]);
+    assert_eq!(table[16 * 19..], [0; 16 * 19]);
 }
 
 #[test]
@@ -139,8 +171,8 @@ fn archive_bytes_32768_and_32769() {
     assert_eq!((fits.number, fits.bytes.len()), (0, 32_768));
     assert_eq!(add(KEYS, &archive, three(exact)[2].as_bytes(), 32_767, WORK_CELLS).number, 14);
     assert_eq!(add(KEYS, &archive, three(exact + 1)[2].as_bytes(), 40_000, WORK_CELLS).number, 13);
-    assert_eq!(back(KEYS, &fits.bytes, 3, 32_768, WORK_CELLS), fits);
-    assert_eq!(back(KEYS, &shelf(KEYS, &three(exact + 1)).archive(), 3, 40_000, WORK_CELLS).number, 2);
+    assert_eq!(back(&fits.bytes, 3, 32_768), fits);
+    assert_eq!(back(&shelf(KEYS, &three(exact + 1)).archive(), 3, 40_000).number, 2);
 }
 
 #[test]

@@ -1,5 +1,6 @@
 //! The record of one station: the three archives and P1 to P10.
 
+use reference::marks::TABLE_BYTES;
 use reference::{add, back, check_keys, found, history, retrieve, Answer, WORK_CELLS};
 
 const KEYS: &str = "(/, (station, {}))\n(/station, (light, {}))\n(/station, (lamp, {pos}))\n(/station/lamp, (type, {}))\n(/station/lamp, (hours, {}))\n";
@@ -31,7 +32,7 @@ fn keys_and_three_archives() {
 fn p1_to_p10() {
     let (keys, archive) = (KEYS.as_bytes(), LINE3.as_bytes());
     let history = |address: &str| history(keys, archive, address.as_bytes(), 4_096, WORK_CELLS);
-    let back = |i| back(keys, archive, i, 4_096, WORK_CELLS);
+    let back = |i| back(keys, archive, &mut [0; TABLE_BYTES], i, 4_096, WORK_CELLS);
     let found = |version: &str| found(keys, version.as_bytes(), 4_096, WORK_CELLS);
     assert_eq!(history(r#"/station/lamp[pos="1"]"#), gives("2-3"), "P1");
     assert_eq!(history(r#"/station/lamp[pos="2"]/hours"#), gives("1-2"), "P2");
@@ -70,6 +71,6 @@ fn gap_in_one_set_and_empty_content() {
     let archive = add(keys, &archive, filled.as_bytes(), 4_096, WORK_CELLS).bytes;
     let two = r#"<T t="1-4"><station><T t="1,3-4"><lamp><hours><T t="1,3"></T><T t="4">5</T></hours><pos>1</pos></lamp></T></station></T>"#;
     assert_eq!(archive, two.as_bytes());
-    assert_eq!(back(keys, &archive, 3, 4_096, WORK_CELLS), gives(gap));
+    assert_eq!(back(keys, &archive, &mut [0; TABLE_BYTES], 3, 4_096, WORK_CELLS), gives(gap));
     assert_eq!(history(keys, &archive, br#"/station/lamp[pos="1"]/hours"#, 10, WORK_CELLS), gives("1,3-4"));
 }

@@ -1,6 +1,7 @@
 //! Each refusal, its order, and the choices where document 01 is open.
 
-use reference::{add, back, check_keys, found, history, retrieve, WORK_CELLS};
+use reference::marks::TABLE_BYTES;
+use reference::{add, back, back_to_mark, check_keys, find_mark, found, history, retrieve, set_mark, WORK_CELLS};
 
 const KEYS: &str = "(/, (s, {}))\n(/s, (f, {}))\n(/s, (k, {p, q}))\n(/s/k, (v, {}))\n";
 const EMPTY: &str = r#"<T t="1"><s></s></T>"#;
@@ -38,7 +39,10 @@ fn one_and_two_come_first() {
     assert_eq!(add(k, a, &long, 0, short).number, 1);
     assert_eq!(retrieve(k, &long, 1, 0, short).number, 1);
     assert_eq!(history(k, a, &long, 0, short).number, 1);
-    assert_eq!(back(k, &long, 1, 0, short).number, 1);
+    assert_eq!(back(k, &long, &mut [], 1, 0, short).number, 1);
+    assert_eq!(back_to_mark(k, &long, &mut [], b"", 0, short).number, 1);
+    assert_eq!(set_mark(k, &long, &mut [], b"", 1, short).number, 1);
+    assert_eq!(find_mark(k, &long, &[], b"", short).0.number, 1);
     assert_eq!(check_keys(&long, WORK_CELLS).number, 2);
     assert_eq!(found(b"bad", &long, 0, WORK_CELLS).number, 2);
     assert_eq!(add(b"bad", a, &long, 0, WORK_CELLS).number, 2);
@@ -46,7 +50,12 @@ fn one_and_two_come_first() {
     assert_eq!(retrieve(b"bad", &long, 1, 0, WORK_CELLS).number, 2);
     assert_eq!(history(b"bad", a, &long_address, 0, WORK_CELLS).number, 2);
     assert_eq!(history(b"bad", a, &long_address[1..], 0, WORK_CELLS).number, 3);
-    assert_eq!(back(b"bad", &long, 1, 0, WORK_CELLS).number, 2);
+    assert_eq!(back(b"bad", &long, &mut [], 1, 0, WORK_CELLS).number, 2);
+    assert_eq!(back_to_mark(b"bad", &long, &mut [], b"", 0, WORK_CELLS).number, 2);
+    assert_eq!(set_mark(b"bad", &long, &mut [], b"", 1, WORK_CELLS).number, 2);
+    assert_eq!(find_mark(b"bad", &long, &[], b"", WORK_CELLS).0.number, 2);
+    // A name is never too long for 2.
+    assert_eq!(find_mark(b"bad", a, &[], &long, WORK_CELLS).0.number, 3);
 }
 
 #[test]
@@ -315,12 +324,38 @@ fn order_of_the_table() {
     assert_eq!(retrieve(k, a, 3, 0, WORK_CELLS).number, 11);
     assert_eq!(retrieve(k, a, usize::MAX, 0, WORK_CELLS).number, 11);
     assert_eq!(retrieve(k, a, 2, 0, WORK_CELLS).number, 14);
-    assert_eq!(back(k, b"bad", 0, 0, WORK_CELLS).number, 10);
-    assert_eq!(back(k, a, 3, 0, WORK_CELLS).number, 11);
+    assert_eq!(back(k, b"bad", &mut [], 0, 0, WORK_CELLS).number, 10);
+    assert_eq!(back(k, a, &mut [], 0, 0, WORK_CELLS).number, 17);
+    assert_eq!(back(k, a, &mut [0; TABLE_BYTES], 3, 0, WORK_CELLS).number, 11);
+    assert_eq!(back(k, a, &mut [0; TABLE_BYTES], 2, 0, WORK_CELLS).number, 14);
+    assert_eq!(back_to_mark(k, b"bad", &mut [], b"", 0, WORK_CELLS).number, 10);
+    assert_eq!(back_to_mark(k, a, &mut [], b"", 0, WORK_CELLS).number, 17);
+    assert_eq!(back_to_mark(k, a, &mut [0; TABLE_BYTES], b"m", 0, WORK_CELLS).number, 15);
+    assert_eq!(set_mark(k, b"bad", &mut [], b"", 0, WORK_CELLS).number, 10);
+    assert_eq!(set_mark(k, a, &mut [], b"", 0, WORK_CELLS).number, 17);
+    assert_eq!(set_mark(k, a, &mut [0; TABLE_BYTES], b"", 0, WORK_CELLS).number, 15);
+    assert_eq!(set_mark(k, a, &mut [0; TABLE_BYTES], b"m", 0, WORK_CELLS).number, 11);
+    assert_eq!(find_mark(k, b"bad", &[], b"", WORK_CELLS).0.number, 10);
+    assert_eq!(find_mark(k, a, &[], b"", WORK_CELLS).0.number, 17);
     assert_eq!(history(k, b"bad", b"bad", 0, WORK_CELLS).number, 10);
     assert_eq!(history(k, a, b"bad", 0, WORK_CELLS).number, 12);
     assert_eq!(history(k, a, b"/s", 0, WORK_CELLS).number, 14);
     assert_eq!(history(k, a, br#"/s/k[p="9" and q="9"]"#, 0, WORK_CELLS).number, 0);
+}
+
+/// 3 and 10 come before 17, whatever length the table has, and leave it as it was.
+#[test]
+fn the_archive_before_the_table() {
+    let k = KEYS.as_bytes();
+    for length in [0, 1, 18, 19, 607, 608, 609, 627] {
+        let mut table = vec![9; length];
+        assert_eq!(set_mark(k, b"bad", &mut table, b"", 0, WORK_CELLS).number, 10);
+        assert_eq!(find_mark(k, b"bad", &table, b"", WORK_CELLS).0.number, 10);
+        assert_eq!(back(k, b"bad", &mut table, 0, 0, WORK_CELLS).number, 10);
+        assert_eq!(back_to_mark(k, b"bad", &mut table, b"", 0, WORK_CELLS).number, 10);
+        assert_eq!(set_mark(b"", b"bad", &mut table, b"", 0, WORK_CELLS).number, 3);
+        assert_eq!(table, vec![9; length]);
+    }
 }
 
 /// Siblings are ordered by name and then by key values, a prefix first.

@@ -41,8 +41,8 @@ enum-known-n c = search needs
 is-spelled-requires : tie.Need-is-spelled-requires
 is-spelled-requires c κs = search needs
 
-mark-requires : tie.Need-mark-requires
-mark-requires c κs = search needs
+say-spelling-requires : tie.Need-say-spelling-requires
+say-spelling-requires c κs = search needs
 
 array-share-prefix-out : tie.Need-array-share-prefix-out
 array-share-prefix-out c =
@@ -120,7 +120,7 @@ show-spec =
     canonical-requires
     enum-known-n
     is-spelled-requires
-    mark-requires
+    say-spelling-requires
     array-share-prefix-out
     slice-aggregate-say
     say-requires

@@ -1,4 +1,4 @@
-//! Document 01's six calls, plain and fast: what one would write for speed, without proofs.
+//! Document 01's six calls and document 02's three over marks, plain and fast: what one would write for speed, without proofs.
 //!
 //! Texts are read in one pass into flat arrays; siblings are merged by two pointers; an archive
 //! is checked where it stands, and unchanged parts of it are copied as they are. The work is on
@@ -7,6 +7,7 @@
 mod address;
 mod archive;
 mod keys;
+mod marks;
 mod text;
 mod timestamp;
 mod version;
@@ -95,16 +96,65 @@ pub fn history(keys: &[u8], archive: &[u8], address: &[u8], out: &mut [u8]) -> (
     })
 }
 
-/// Step back to version i.
-pub fn back(keys: &[u8], archive: &[u8], i: usize, out: &mut [u8]) -> (u32, usize) {
+/// Step back to version i; the table loses the marks of later versions.
+pub fn back(keys: &[u8], archive: &[u8], table: &mut [u8], i: usize, out: &mut [u8]) -> (u32, usize) {
     answer(|| {
         within(keys, KEY_LIST_BYTES)?;
         within(archive, ARCHIVE_BYTES)?;
         let keys = KeyList::read(keys)?;
         let archive = archive::read(&keys, archive, i).ok_or(10u32)?;
+        let count = marks::count(table, archive.n)?;
         let i = standing(i, archive.n)?;
-        give(&writing::stepped_back(&keys, &archive, i), out)
+        let length = give(&writing::stepped_back(&keys, &archive, i), out)?;
+        marks::drop_later(table, count, i);
+        Ok(length)
     })
+}
+
+/// Step back to the version of a mark.
+pub fn back_to_mark(keys: &[u8], archive: &[u8], table: &mut [u8], name: &[u8], out: &mut [u8]) -> (u32, usize) {
+    answer(|| {
+        within(keys, KEY_LIST_BYTES)?;
+        within(archive, ARCHIVE_BYTES)?;
+        let keys = KeyList::read(keys)?;
+        // The version is asked for before the table is known to be legal, as reading the archive needs it.
+        let i = marks::version_of(table, name);
+        let archive = archive::read(&keys, archive, i).ok_or(10u32)?;
+        let count = marks::count(table, archive.n)?;
+        let i = standing(i, archive.n).map_err(|_| 15u32)?;
+        let length = give(&writing::stepped_back(&keys, &archive, i), out)?;
+        marks::drop_later(table, count, i);
+        Ok(length)
+    })
+}
+
+/// Set a mark.
+pub fn set_mark(keys: &[u8], archive: &[u8], table: &mut [u8], name: &[u8], i: usize) -> (u32, usize) {
+    answer(|| {
+        let n = versions(keys, archive)?;
+        let count = marks::count(table, n)?;
+        marks::set(table, count, name, i, n)?;
+        Ok(0)
+    })
+}
+
+/// Find a mark: the number and the version, 0 when refused. The length is 0.
+pub fn find_mark(keys: &[u8], archive: &[u8], table: &[u8], name: &[u8]) -> (u32, usize) {
+    answer(|| {
+        marks::count(table, versions(keys, archive)?)?;
+        match marks::version_of(table, name) {
+            0 => Err(15),
+            version => Ok(version),
+        }
+    })
+}
+
+/// How many versions an archive has.
+fn versions(keys: &[u8], archive: &[u8]) -> Outcome<u16> {
+    within(keys, KEY_LIST_BYTES)?;
+    within(archive, ARCHIVE_BYTES)?;
+    let keys = KeyList::read(keys)?;
+    archive::read(&keys, archive, 0).map(|archive| archive.n).ok_or(10)
 }
 
 /// Number and length.

@@ -1,13 +1,17 @@
 //! The cases of the program `limits` (crates/limits), asked of the second implementation: its lines are
 //! that program's stored `stdout`. One line a case: name, number, length, and a result's bytes or, where
-//! they are over 120, their Adler-32 checksum.
+//! they are over 120, their Adler-32 checksum; then, of a call over marks, that of its table, or the version found.
 //!
 //!     cargo run --offline --release --bin limits > ../../crates/limits/stdout
 
-use reference::{add, back, check_keys, found, history, retrieve, Answer, WORK_CELLS};
+use reference::marks::TABLE_BYTES;
+use reference::{add, back, back_to_mark, check_keys, find_mark, found, history, retrieve, set_mark, Answer, WORK_CELLS};
 
 const KEYS: &[u8] = b"(/, (s, {}))\n(/s, (f, {}))\n(/s, (k, {p}))\n";
 const ROOM: usize = 32_768;
+
+type Table = [u8; TABLE_BYTES];
+const UNUSED: Table = [0; TABLE_BYTES];
 
 /// The Adler-32 checksum of bytes (RFC 1950).
 fn checksum(bytes: &[u8]) -> u64 {
@@ -19,13 +23,21 @@ fn checksum(bytes: &[u8]) -> u64 {
 }
 
 fn line(name: &str, answer: &Answer) {
+    println!("{}", case(name, answer));
+}
+
+fn table_line(name: &str, answer: &Answer, table: &Table) {
+    println!("{} table {:08x}", case(name, answer), checksum(table));
+}
+
+fn case(name: &str, answer: &Answer) -> String {
     let bytes = &answer.bytes;
     let shown = match bytes.len() {
         0 => String::new(),
         1..=120 => format!(" {}", String::from_utf8_lossy(bytes)),
         _ => format!(" sum {:08x}", checksum(bytes)),
     };
-    println!("{name}: {} {}{shown}", answer.number, bytes.len());
+    format!("{name}: {} {}{shown}", answer.number, bytes.len())
 }
 
 /// A version whose one frontier holds so many times a word, and as many times what closes it.
@@ -53,8 +65,31 @@ fn histories(name: &str, archive: &[u8], address: &str, room: usize) {
     line(name, &history(KEYS, archive, address.as_bytes(), room, WORK_CELLS));
 }
 
+/// With a table of unused entries.
 fn backs(name: &str, archive: &[u8], i: usize, room: usize) {
-    line(name, &back(KEYS, archive, i, room, WORK_CELLS));
+    line(name, &back(KEYS, archive, &mut [0; TABLE_BYTES], i, room, WORK_CELLS));
+}
+
+fn marked_backs(name: &str, archive: &[u8], mut table: Table, i: usize, room: usize) {
+    let answer = back(KEYS, archive, &mut table, i, room, WORK_CELLS);
+    table_line(name, &answer, &table);
+}
+
+fn named_backs(name: &str, archive: &[u8], mut table: Table, mark: &[u8], room: usize) {
+    let answer = back_to_mark(KEYS, archive, &mut table, mark, room, WORK_CELLS);
+    table_line(name, &answer, &table);
+}
+
+/// The table that is left.
+fn sets(name: &str, archive: &[u8], mut table: Table, mark: &[u8], i: usize) -> Table {
+    let answer = set_mark(KEYS, archive, &mut table, mark, i, WORK_CELLS);
+    table_line(name, &answer, &table);
+    table
+}
+
+fn finds(name: &str, archive: &[u8], table: Table, mark: &[u8]) {
+    let (answer, version) = find_mark(KEYS, archive, &table, mark, WORK_CELLS);
+    println!("{} version {version}", case(name, &answer));
 }
 
 fn sizes() {
@@ -97,6 +132,17 @@ fn versions() {
     histories("history of f", &last, "/s/f", ROOM);
     backs("back to 998", &last, 998, ROOM);
     backs("back to 1", &last, 1, ROOM);
+    last_marks(&last);
+}
+
+/// Marks of the archive of 999 versions.
+fn last_marks(archive: &[u8]) {
+    let table = sets("mark of 998", archive, UNUSED, b"new-lens", 998);
+    let table = sets("mark of 999", archive, table, b"new-lamp", 999);
+    sets("mark of 1,000", archive, table, b"newer", 1_000);
+    finds("find 999", archive, table, b"new-lamp");
+    named_backs("back to the mark of 999", archive, table, b"new-lamp", ROOM);
+    named_backs("back to the mark of 998", archive, table, b"new-lens", ROOM);
 }
 
 fn key_refusals() {
@@ -124,6 +170,62 @@ fn archive_refusals() {
     backs("refusal 14", archive, 1, 0);
 }
 
+/// A table with a mark for each of the names, which have a byte each; they are of versions 2 and 1 by turns.
+fn marked(archive: &[u8], names: &[u8]) -> Table {
+    let mut table = UNUSED;
+    for (at, name) in names.chunks(1).enumerate() {
+        set_mark(KEYS, archive, &mut table, name, 2 - at % 2, WORK_CELLS);
+    }
+    table
+}
+
+fn marks(two: &[u8]) {
+    sets("mark 1", two, UNUSED, b"A", 2);
+    let full = sets("mark 32", two, marked(two, b"ABCDEFGHIJKLMNOPQRSTUVWXYZabcde"), b"f", 1);
+    sets("refusal 16", two, full, b"g", 1);
+    sets("full, and no version", two, full, b"g", 0);
+    sets("full, and held", two, full, b"A", 1);
+    finds("find the first", two, full, b"A");
+    finds("find the last", two, full, b"f");
+    finds("find none", two, full, b"g");
+    marked_backs("marks kept", two, full, 2, ROOM);
+    marked_backs("marks dropped", two, full, 1, ROOM);
+}
+
+fn mark_names(two: &[u8]) {
+    let table = sets("name of 16", two, UNUSED, b"as_commissioned.", 1);
+    sets("name of 17", two, table, b"as_commissioned.1", 1);
+    sets("name of none", two, table, b"", 1);
+    sets("refusal 15", two, table, b"as commissioned", 1);
+    finds("find a name of 16", two, table, b"as_commissioned.");
+    finds("find a name of 15", two, table, b"as_commissioned");
+    sets("mark of n + 1", two, table, b"later", 3);
+    sets("mark of 0", two, table, b"never", 0);
+}
+
+fn mark_outputs(two: &[u8]) {
+    let table = marked(two, b"AB");
+    named_backs("back to mark exact", two, table, b"B", 28);
+    named_backs("back to mark short", two, table, b"B", 27);
+    marked_backs("marked back exact", two, table, 1, 28);
+    marked_backs("marked back short", two, table, 1, 27);
+    named_backs("back to no mark", two, table, b"C", 0);
+}
+
+/// Marks of version 2 lent with an archive of one version; an unused entry that is not all zero.
+fn table_refusals(two: &[u8]) {
+    let one = b"<T t=\"1\"><s></s></T>";
+    let table = marked(two, b"AB");
+    sets("refusal 17", one, table, b"", 0);
+    finds("find refusal 17", one, table, b"A");
+    marked_backs("back refusal 17", one, table, 0, 0);
+    named_backs("back to mark refusal 17", one, table, b"", 0);
+    let mut unused = UNUSED;
+    unused[607] = 1;
+    sets("last byte 1", two, unused, b"A", 1);
+    sets("archive before table", b"", unused, b"A", 1);
+}
+
 fn nodes() {
     let one = found(KEYS, &version("<a/>", 510, ""), ROOM, WORK_CELLS).bytes;
     let two = adds("1,012 nodes", &one, &version("<b/>", 500, ""), ROOM).bytes;
@@ -139,4 +241,9 @@ fn main() {
     version_refusals();
     archive_refusals();
     nodes();
+    let two = b"<T t=\"1-2\"><s><T t=\"1\"><f>x</f></T></s></T>";
+    marks(two);
+    mark_names(two);
+    mark_outputs(two);
+    table_refusals(two);
 }

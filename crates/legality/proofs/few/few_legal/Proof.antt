@@ -15,7 +15,7 @@ use Rattle.timestamp.specs.Listed.{Only}
 use Rattle.timestamp.specs.Parses.{text-first}
 use Rattle.timestamp.specs.TakenText.{TakesText}
 use Rattle.versions.specs.Branches.{judged, follows, Way, first, way-start, way-few, way-done, way-other}
-use Rattle.versions.specs.Marks.{way-illegal, way-legal}
+use Rattle.versions.specs.Hashes.{way-illegal, way-legal}
 use Rattle.legality.specs.Left.{Within, Took, took, within-read, within-less, none-taken, all-taken, more-taken, left-follow, way-untaken}
 use Rattle.legality.proofs.few.few_legal.Statement.{statement}
 use Rattle.legality.proofs.few.few_legal.Tie as tie

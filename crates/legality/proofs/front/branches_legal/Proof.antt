@@ -1,5 +1,5 @@
 -- `front::branches_legal` meets its contract. The loop's invariant (`Way`): the answer is that for the nodes left, after those passed,
--- whose contents' versions are those of `times` that are not left, and whose contents' marks are the first of `marks` and are set in `seen`;
+-- whose contents' versions are those of `times` that are not left, and whose contents' hashes are the first of `hashes` and are set in `seen`;
 -- there are no more of them than the first version of the last. Assumes nothing.
 use Prim.Native.Nat.{_+_, _-_, _%_, _<_, _≤_}
 use native.Mathlib.Omega.{arith}
@@ -17,23 +17,23 @@ use Rattle.timestamp.specs.Listed.{Only}
 use Rattle.timestamp.specs.Parses.{text-first}
 use Rattle.timestamp.specs.TakenText.{TakesText}
 use Rattle.versions.specs.Branches.{judged, follows, Way, first, way-start, way-few, way-done, way-other}
-use Rattle.versions.specs.Marks.{marksOf, noted-all, note-none, note-next, way-illegal, way-legal}
-use Rattle.legality.specs.Seen.{isSeen, seen-more, mark-fits}
+use Rattle.versions.specs.Hashes.{hashesOf, noted-all, note-none, note-next, way-illegal, way-legal}
+use Rattle.legality.specs.Seen.{isSeen, seen-more, hash-fits}
 use Rattle.legality.specs.Left.{Within, Took, took, within-read, within-less, none-taken, all-taken, more-taken, left-follow, way-untaken}
 use Rattle.legality.proofs.front.branches_legal.Statement.{statement}
 use Rattle.legality.proofs.front.branches_legal.Tie as tie
 
 abbrev Inv-loop : tie.InvT-loop
-Inv-loop src tape lo hi n left₀ p₀ count₀ first₀ marks₀ seen₀ left p count first marks seen =
-    (lo ≤ p) × (count ≤ first) × (length marks ≡ 1000)
+Inv-loop src tape lo hi n left₀ p₀ count₀ first₀ hashes₀ seen₀ left p count first hashes seen =
+    (lo ≤ p) × (count ≤ first) × (length hashes ≡ 1000)
     × ((f : Forest) → Tape src tape lo hi f → Only n (setOf left₀) → Way src tape lo p hi n (setOf left₀) (without (setOf left₀) (setOf left)) first count (judged n (setOf left₀) emptySet 0 0 end f))
-    × ((d : Forest) → Tape src tape lo p d → take count marks ≡ marksOf d)
-    × (length seen ≡ 256) × (all (isSeen seen) (take count marks) ≡ true)
+    × ((d : Forest) → Tape src tape lo p d → take count hashes ≡ hashesOf d)
+    × (length seen ≡ 256) × (all (isSeen seen) (take count hashes) ≡ true)
     × Valid src tape lo p × Valid src tape p hi
     × (length left ≡ 16) × Within (setOf left) (setOf left₀)
 
 abbrev μ-loop : tie.MeasureT-loop
-μ-loop src tape lo hi n left₀ p₀ count₀ first₀ marks₀ seen₀ left p count first marks seen = hi - p
+μ-loop src tape lo hi n left₀ p₀ count₀ first₀ hashes₀ seen₀ left p count first hashes seen = hi - p
 
 here : (c : tie.In-loop Inv-loop μ-loop) → Front (c .before .before .before .before .before .args .src .now) (c .before .before .before .before .before .args .tape .now) (c .before .loop .p) (c .before .before .before .before .before .args .hi)
 here c = front (c .before .loop .inv .8 .tape) (c .loop-test .taken)
@@ -53,7 +53,7 @@ taken c = took _ _ _ _ (taking (c .before) .0) (c .if2 .left)
 had : (c : tie.Else2 Inv-loop μ-loop) → Within (taken c .set) (setOf (c .before .before .before .before .before .before .before .loop .left))
 had c = within-read _ _ _ (taken c .is) (taken c .had)
 
--- so that there is room among the marks
+-- so that there is room among the hashes
 room : (c : tie.Else2 Inv-loop μ-loop) → c .before .before .before .before .before .before .before .loop .count < 1000
 room c = omega (arith, c .if2 .left, taken c .first, text-first _ _ (taken c .is), c .before .before .before .before .before .before .before .loop .inv .1)
 
@@ -81,14 +81,14 @@ take-at-requires c κs = rw (c .before .before .before .view-at .ensures) (omega
 returns-2 : tie.Need-returns-2 Inv-loop μ-loop
 returns-2 c f t o = sym (way-untaken (setOf (c .before .before .before .before .before .before .before .before .before .before .before .args .times .words)) (setOf (c .before .before .before .before .before .before .before .loop .left)) (c .before .before .before .before .before .before .before .loop .inv .3 f t o) (c .before .before .before .before .before .before .loop-test .taken) (kind (c .before .before .before)) (omega (arith, c .if2 .taken, taking (c .before) .0)))
 
-add-mark : tie.Need-add-mark Inv-loop μ-loop
-add-mark c = omega (arith, here (c .before .before .before .before .before .before) .held)
+add-hash : tie.Need-add-hash Inv-loop μ-loop
+add-hash c = omega (arith, here (c .before .before .before .before .before .before) .held)
 
-mark-requires : tie.Need-mark-requires Inv-loop μ-loop
-mark-requires c κs = rw (c .before .before .before .before .before .view-at .ensures) (inside (c .before .before .before .before .before .before))
+hash-requires : tie.Need-hash-requires Inv-loop μ-loop
+hash-requires c κs = rw (c .before .before .before .before .before .view-at .ensures) (inside (c .before .before .before .before .before .before))
 
-cast-m : tie.Need-cast-m Inv-loop μ-loop
-cast-m c = omega (arith, mark-fits (inside (c .before .before .before .before .before .before .before) .tape) (rw (c .before .before .before .before .before .before .view-at .ensures) at (c .mark .ensures)))
+cast-h : tie.Need-cast-h Inv-loop μ-loop
+cast-h c = omega (arith, hash-fits (inside (c .before .before .before .before .before .before .before) .tape) (rw (c .before .before .before .before .before .before .view-at .ensures) at (c .hash .ensures)))
 
 add-content-legal : tie.Need-add-content-legal Inv-loop μ-loop
 add-content-legal c = omega (arith, here (c .before .before .before .before .before .before .before) .held)
@@ -100,7 +100,7 @@ content-legal-requires : tie.Need-content-legal-requires Inv-loop μ-loop
 content-legal-requires c κs = rw (c .before .before .before .before .before .before .before .before .view-at .ensures) (
   c .before .before .before .before .before .before .before .before .before .before .loop .inv .7,
   inside (c .before .before .before .before .before .before .before .before .before),
-  rw (c .before .before .before .before .before .before .before .before .view-at .ensures) at (c .before .before .mark .ensures),
+  rw (c .before .before .before .before .before .before .before .before .view-at .ensures) at (c .before .before .hash .ensures),
   λ d t. noted-all _ (c .before .before .before .before .before .before .before .before .before .before .loop .count) d (c .before .before .before .before .before .before .before .before .before .before .loop .inv .4 d t),
   λ d t. rw (c .before .before .before .before .before .before .before .before .before .before .loop .inv .4 d t) at (c .before .before .before .before .before .before .before .before .before .before .loop .inv .6),
 )
@@ -108,14 +108,14 @@ content-legal-requires c κs = rw (c .before .before .before .before .before .be
 returns-3 : tie.Need-returns-3 Inv-loop μ-loop
 returns-3 c f t o = let k = taken (c .before .before .before .before .before) in sym (way-illegal (c .before .before .before .before .before .before .before .before .before .before .before .before .loop .inv .3 f t o) (c .before .before .before .before .before .before .before .before .before .before .before .loop-test .taken) (kind (c .before .before .before .before .before .before .before .before)) (k .set) (k .is) (may (c .before .before .before .before .before) o) (λ d g a b. sym (not-true _ (c .if3 .taken)) ∙ (rw (c .before .before .before .before .before .before .before .before .before .before .view-at .ensures) at (c .before .content-legal .ensures)) d g a b))
 
-mul-marks : tie.Need-mul-marks Inv-loop μ-loop
-mul-marks c = omega (arith, room (c .before .before .before .before .before))
+mul-hashes : tie.Need-mul-hashes Inv-loop μ-loop
+mul-hashes c = omega (arith, room (c .before .before .before .before .before))
 
-array-write-marks : tie.Need-array-write-marks Inv-loop μ-loop
-array-write-marks c = omega (arith, room (c .before .before .before .before .before))
+array-write-hashes : tie.Need-array-write-hashes Inv-loop μ-loop
+array-write-hashes c = omega (arith, room (c .before .before .before .before .before))
 
-set-mark-requires : tie.Need-set-mark-requires Inv-loop μ-loop
-set-mark-requires c κs = c .before .before .before .before .before .before .before .before .before .before .before .before .before .loop .inv .5
+set-seen-requires : tie.Need-set-seen-requires Inv-loop μ-loop
+set-seen-requires c κs = c .before .before .before .before .before .before .before .before .before .before .before .before .before .loop .inv .5
 
 add-count : tie.Need-add-count Inv-loop μ-loop
 add-count c = omega (arith, room (c .before .before .before .before .before .before .before))
@@ -129,15 +129,15 @@ loop-again c =
     let w = split (c .before .before .before .before .before .before .before .before .before .before .before .before .before .before .loop .inv .8 .tape) (c .before .before .before .before .before .before .before .before .before .before .before .before .before .loop-test .taken) in
     let k = taken (c .before .before .before .before .before .before .before) in
     let e = taking (c .before .before .before .before .before .before .before .before) .1 (k .set) (k .is) (k .had) in
-    let i : c .before .before .before .before .before .before .before .before .before .before .before .before .before .before .loop .count < length (c .before .before .before .before .before .before .before .before .before .before .before .before .before .before .loop .marks) = omega (arith, room (c .before .before .before .before .before .before .before), c .before .before .before .before .before .before .before .before .before .before .before .before .before .before .loop .inv .2) in
+    let i : c .before .before .before .before .before .before .before .before .before .before .before .before .before .before .loop .count < length (c .before .before .before .before .before .before .before .before .before .before .before .before .before .before .loop .hashes) = omega (arith, room (c .before .before .before .before .before .before .before), c .before .before .before .before .before .before .before .before .before .before .before .before .before .before .loop .inv .2) in
     rw (c .before .before .before .before .before .before .before .before .before .before .before .before .view-at .ensures) (
       omega (arith, s .forward, c .before .before .before .before .before .before .before .before .before .before .before .before .before .before .loop .inv .0),
       omega (arith, c .before .before .before .before .before .before .before .if2 .left, c .before .before .before .before .before .before .before .before .before .before .before .before .before .before .loop .inv .1),
-      length-set (c .before .before .before .before .before .before .before .before .before .before .before .before .before .before .loop .marks) _ _ ∙ c .before .before .before .before .before .before .before .before .before .before .before .before .before .before .loop .inv .2,
+      length-set (c .before .before .before .before .before .before .before .before .before .before .before .before .before .before .loop .hashes) _ _ ∙ c .before .before .before .before .before .before .before .before .before .before .before .before .before .before .loop .inv .2,
       λ f t o. way-legal (c .before .before .before .before .before .before .before .before .before .before .before .before .before .before .loop .inv .3 f t o) (c .before .before .before .before .before .before .before .before .before .before .before .before .before .loop-test .taken) (kind (c .before .before .before .before .before .before .before .before .before .before)) (k .set) (k .is) (may (c .before .before .before .before .before .before .before) o) (λ d g a b. sym (not-false _ (c .before .before .if3 .left)) ∙ (rw (c .before .before .before .before .before .before .before .before .before .before .before .before .view-at .ensures) at (c .before .before .before .content-legal .ensures)) d g a b) (ap (without (setOf (c .before .before .before .before .before .before .before .before .before .before .before .before .before .before .before .before .before .before .args .times .words))) e ∙ more-taken _ _ _ (c .before .before .before .before .before .before .before .before .before .before .before .before .before .before .loop .inv .10) (had (c .before .before .before .before .before .before .before))) (k .first),
-      note-next (c .before .before .before .before .before .before .before .before .before .before .before .before .before .before .loop .marks) (c .before .before .before .before .before .before .before .before .before .before .before .before .before .before .loop .count) (c .before .before .before .before .before .before .before .before .before .before .before .before .before .before .loop .inv .7 .tape) (c .before .before .before .before .before .before .before .before .before .before .before .before .before .before .loop .inv .8 .tape) (c .before .before .before .before .before .before .before .before .before .before .before .before .before .loop-test .taken) (kind (c .before .before .before .before .before .before .before .before .before .before)) (c .before .before .before .before .before .before .before .before .before .before .before .before .before .before .loop .inv .4 _ (c .before .before .before .before .before .before .before .before .before .before .before .before .before .before .loop .inv .7 .tape)) i (rw (c .before .before .before .before .before .before .before .before .before .before .before .before .view-at .ensures) at (c .before .before .before .before .before .before .mark .ensures)),
-      c .set-mark .ensures .1,
-      seen-more _ _ _ (c .set-mark .ensures .0) (c .before .before .before .before .before .before .before .before .before .before .before .before .before .before .loop .marks) (c .before .before .before .before .before .before .before .before .before .before .before .before .before .before .loop .count) i (c .before .before .before .before .before .before .before .before .before .before .before .before .before .before .loop .inv .6),
+      note-next (c .before .before .before .before .before .before .before .before .before .before .before .before .before .before .loop .hashes) (c .before .before .before .before .before .before .before .before .before .before .before .before .before .before .loop .count) (c .before .before .before .before .before .before .before .before .before .before .before .before .before .before .loop .inv .7 .tape) (c .before .before .before .before .before .before .before .before .before .before .before .before .before .before .loop .inv .8 .tape) (c .before .before .before .before .before .before .before .before .before .before .before .before .before .loop-test .taken) (kind (c .before .before .before .before .before .before .before .before .before .before)) (c .before .before .before .before .before .before .before .before .before .before .before .before .before .before .loop .inv .4 _ (c .before .before .before .before .before .before .before .before .before .before .before .before .before .before .loop .inv .7 .tape)) i (rw (c .before .before .before .before .before .before .before .before .before .before .before .before .view-at .ensures) at (c .before .before .before .before .before .before .hash .ensures)),
+      c .set-seen .ensures .1,
+      seen-more _ _ _ (c .set-seen .ensures .0) (c .before .before .before .before .before .before .before .before .before .before .before .before .before .before .loop .hashes) (c .before .before .before .before .before .before .before .before .before .before .before .before .before .before .loop .count) i (c .before .before .before .before .before .before .before .before .before .before .before .before .before .before .loop .inv .6),
       record { forest = _; tape = tape-join (c .before .before .before .before .before .before .before .before .before .before .before .before .before .before .loop .inv .7 .tape) (w .here) },
       record { forest = _; tape = w .after },
       taking (c .before .before .before .before .before .before .before .before) .2,
@@ -164,16 +164,16 @@ branches-legal-spec =
     returns
     take-at-requires
     returns-2
-    add-mark
-    mark-requires
-    cast-m
+    add-hash
+    hash-requires
+    cast-h
     add-content-legal
     slice-aggregate-content-legal
     content-legal-requires
     returns-3
-    mul-marks
-    array-write-marks
-    set-mark-requires
+    mul-hashes
+    array-write-hashes
+    set-seen-requires
     add-count
     loop-less
     loop-again

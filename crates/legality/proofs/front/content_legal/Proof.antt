@@ -13,13 +13,13 @@ is-untimed-requires c κs = search needs
 returns : tie.Need-returns
 returns c d k t u = sym (rw (sym (c .before .is-untimed .ensures k u) ∙ not-true _ (c .if1 .taken)) refl)
 
-is-marked-requires : tie.Need-is-marked-requires
-is-marked-requires c κs = search needs
+is-seen-requires : tie.Need-is-seen-requires
+is-seen-requires c κs = search needs
 
 returns-2 : tie.Need-returns-2
 returns-2 c d k t u =
     rw (sym (c .before .before .before .is-untimed .ensures k u) ∙ not-false _ (c .before .before .if1 .left))
-    (sym (ap not (seen-new _ _ k d (c .before .before .before .before .before .before .before .pre .2 k u) (sym (c .before .is-marked .ensures) ∙ not-true _ (c .if2 .taken)) (c .before .before .before .before .before .before .before .pre .4 d t))))
+    (sym (ap not (seen-new _ _ k d (c .before .before .before .before .before .before .before .pre .2 k u) (sym (c .before .is-seen .ensures) ∙ not-true _ (c .if2 .taken)) (c .before .before .before .before .before .before .before .pre .4 d t))))
 
 is-repeated-requires : tie.Need-is-repeated-requires
 is-repeated-requires c κs = search needs
@@ -33,7 +33,7 @@ content-legal-spec =
     (tie.spec
     is-untimed-requires
     returns
-    is-marked-requires
+    is-seen-requires
     returns-2
     is-repeated-requires
     returns-3)

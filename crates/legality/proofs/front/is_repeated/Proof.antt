@@ -1,5 +1,5 @@
--- `archive::front::is_repeated` meets its contract. The loop's invariant (`Sought`): the content is among all nodes just where it is among
--- those left, whose marks come from the j-th on. Assumes nothing.
+-- `legality::front::is_repeated` meets its contract. The loop's invariant (`Sought`): the content is among all nodes just where it is among
+-- those left, whose hashes come from the j-th on. Assumes nothing.
 use Prim.Native.Nat.{_+_, _-_, _≤_}
 use native.Mathlib.Omega.{arith}
 use mathlib.Core.Path.{sym, _∙_}
@@ -8,15 +8,15 @@ use Rattle.xml.specs.Forest.{Forest}
 use Rattle.xml.specs.Tape.{Tape, nextAt}
 use Rattle.xml.specs.TapeLaws.{Front, front}
 use Rattle.versions.specs.Branches.{Sought, first, sought-start, sought-found, sought-more, sought-none}
-use Rattle.versions.specs.Marks.{Notes, NotedFirst, noted-first}
+use Rattle.versions.specs.Hashes.{Notes, NotedFirst, noted-first}
 use Rattle.legality.proofs.front.is_repeated.Statement.{statement}
 use Rattle.legality.proofs.front.is_repeated.Tie as tie
 
 abbrev Inv-loop : tie.InvT-loop
-Inv-loop src tape lo hi a e marks m p₀ j₀ p j = (lo ≤ p) × ((d k : Forest) → Tape src tape lo hi d → Tape src tape a e k → Sought src tape p hi k d) × Notes src tape p hi marks j
+Inv-loop src tape lo hi a e hashes h p₀ j₀ p j = (lo ≤ p) × ((d k : Forest) → Tape src tape lo hi d → Tape src tape a e k → Sought src tape p hi k d) × Notes src tape p hi hashes j
 
 abbrev μ-loop : tie.MeasureT-loop
-μ-loop src tape lo hi a e marks m p₀ j₀ p j = hi - p
+μ-loop src tape lo hi a e hashes h p₀ j₀ p j = hi - p
 
 way : (c : tie.At-loop Inv-loop μ-loop) → Sought (c .before .before .before .before .args .src .now) (c .before .before .before .before .args .tape .now) (c .loop .p) (c .before .before .before .before .args .hi) (c .before .before .before .before .pre .1 .forest) (c .before .before .before .before .pre .0 .forest)
 way c = c .loop .inv .1 (c .before .before .before .before .pre .0 .forest) (c .before .before .before .before .pre .1 .forest) (c .before .before .before .before .pre .0 .tape) (c .before .before .before .before .pre .1 .tape)
@@ -24,10 +24,10 @@ way c = c .loop .inv .1 (c .before .before .before .before .pre .0 .forest) (c .
 here : (c : tie.In-loop Inv-loop μ-loop) → Front (c .before .before .before .before .before .args .src .now) (c .before .before .before .before .before .args .tape .now) (c .before .loop .p) (c .before .before .before .before .before .args .hi)
 here c = front (way (c .before) .tape) (c .loop-test .taken)
 
--- the j-th mark is that of what the node p holds
+-- the j-th hash is that of what the node p holds
 note : (c : tie.In-loop Inv-loop μ-loop) (k r : Forest) → Tape (c .before .before .before .before .before .args .src .now) (c .before .before .before .before .before .args .tape .now) (c .before .loop .p + 1) (nextAt (c .before .before .before .before .before .args .tape .now) (c .before .loop .p)) k
     → Tape (c .before .before .before .before .before .args .src .now) (c .before .before .before .before .before .args .tape .now) (nextAt (c .before .before .before .before .before .args .tape .now) (c .before .loop .p)) (c .before .before .before .before .before .args .hi) r
-    → NotedFirst (c .before .before .before .before .before .args .marks .now) (c .before .loop .j) k r
+    → NotedFirst (c .before .before .before .before .before .args .hashes .now) (c .before .loop .j) k r
 note c k r t u = noted-first (way (c .before) .tape) (c .loop-test .taken) t u (c .before .loop .inv .2 _ (way (c .before) .tape))
 
 loop-holds : tie.Need-loop-holds Inv-loop μ-loop

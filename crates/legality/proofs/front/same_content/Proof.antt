@@ -1,12 +1,12 @@
--- `archive::front::same_content` meets its contract: forests with different marks differ. Assumes nothing.
+-- `legality::front::same_content` meets its contract: forests with different hashes differ. Assumes nothing.
 use mathlib.Core.Path.{sym}
 use borrow.Author.Needs.{needs}
-use Rattle.versions.specs.Marks.{marks-apart}
+use Rattle.versions.specs.Hashes.{hashes-apart}
 use Rattle.legality.proofs.front.same_content.Statement.{statement}
 use Rattle.legality.proofs.front.same_content.Tie as tie
 
 returns : tie.Need-returns
-returns c k g t u = sym (marks-apart k g _ _ (c .before .before .before .pre .2 k t) (c .before .before .before .pre .3 g u) (c .if1 .taken))
+returns c k g t u = sym (hashes-apart k g _ _ (c .before .before .before .pre .2 k t) (c .before .before .before .pre .3 g u) (c .if1 .taken))
 
 same-nodes-requires : tie.Need-same-nodes-requires
 same-nodes-requires c κs = search needs

@@ -34,18 +34,6 @@ enum-told-5 c = search needs
 give-history-requires : tie.Need-give-history-requires
 give-history-requires c κs = search needs
 
-enum-told-6 : tie.Need-enum-told-6
-enum-told-6 c = search needs
-
-step-back-requires : tie.Need-step-back-requires
-step-back-requires c κs = search needs
-
-enum-told-7 : tie.Need-enum-told-7
-enum-told-7 c = search needs
-
-check-keys-requires-2 : tie.Need-check-keys-requires-2
-check-keys-requires-2 c κs = search needs
-
 same-length : tie.Need-same-length
 same-length c = search needs
 
@@ -88,21 +76,6 @@ same-length-9 c = search needs
 returns-5 : tie.Need-returns-5
 returns-5 c = let a = c .before .before .before .before .before .before .before .before .before .before .before .before .before .before .args in asks (a .keys .now) (a .archive .now) (a .text .now) (a .i) (a .out .now) (a .work .now) (c .before .before .before .before .before .before .before .enum-told5 .given .1) (c .before .before .before .before .give-history .ensures)
 
-same-length-10 : tie.Need-same-length-10
-same-length-10 c = search needs
-
-same-length-11 : tie.Need-same-length-11
-same-length-11 c = search needs
-
-returns-6 : tie.Need-returns-6
-returns-6 c = let a = c .before .before .before .before .before .before .before .before .before .before .before .before .before .before .args in asks (a .keys .now) (a .archive .now) (a .text .now) (a .i) (a .out .now) (a .work .now) (c .before .before .before .before .before .before .before .enum-told6 .given .1) (c .before .before .before .before .step-back .ensures)
-
-same-length-12 : tie.Need-same-length-12
-same-length-12 c = search needs
-
-returns-7 : tie.Need-returns-7
-returns-7 c = let a = c .before .before .before .before .before .before .before .before .before .before .before .args in asks (a .keys .now) (a .archive .now) (a .text .now) (a .i) (a .out .now) (a .work .now) (c .before .before .before .before .enum-told7 .given .1) (check-ends (a .keys .now) (a .out .now) (a .work .now) (c .before .before .check-keys2 .ensures))
-
 pub ask-spec : {M : Type 1} → statement M
 ask-spec =
     tie.close
@@ -117,10 +90,6 @@ ask-spec =
     retrieve-requires
     enum-told-5
     give-history-requires
-    enum-told-6
-    step-back-requires
-    enum-told-7
-    check-keys-requires-2
     same-length
     returns
     same-length-2
@@ -134,9 +103,4 @@ ask-spec =
     returns-4
     same-length-8
     same-length-9
-    returns-5
-    same-length-10
-    same-length-11
-    returns-6
-    same-length-12
-    returns-7)
+    returns-5)

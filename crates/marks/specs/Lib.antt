@@ -1,0 +1,12 @@
+pub mod Marks
+pub mod Lent
+pub mod LentLaws
+pub mod Judging
+pub mod JudgeLaws
+pub mod Changing
+pub mod ChangeLaws
+pub mod AfterLaws
+pub mod Passed
+pub mod BytesLaws
+pub mod Promises
+pub mod Samples
