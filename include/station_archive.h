@@ -13,7 +13,7 @@
  * neither out, marks, *version nor *length overlaps anything else that the call is lent. The texts are only read.
  * The calls keep no state and allocate nothing, and of C's library use memcpy and memset alone. Their work cells
  * (64 KiB) and the draft of an add (32 KiB) are on the caller's stack, of which an add takes some 123 KB at most and
- * any other call some 88 KB (measured, not proved: 122,911 and 87,951 bytes in tests/bench, with key levels and
+ * any other call some 88 KB (measured, not proved: 122,895 and 87,935 bytes in tests/bench, with key levels and
  * elements as deep as they may be).
  */
 #ifndef STATION_ARCHIVE_H
@@ -61,6 +61,9 @@ enum archive_length {
  * its version is 1 to n of the archive lent with the table; bytes past a name are zero. Unused entries follow, all zero:
  * 608 zero bytes are a table with no mark. Keep the table beside the archive, and lend both as the last call left them. */
 
+/* A version is one root element or, where a station is struck off, vacant: empty (length 0) or white space alone. A
+ * vacant version counts as any other, and holds no address; its written form is empty. */
+
 /* Checks a key list. It has no output: *length is 0. Returns 0 or 2 to 4. */
 uint32_t archive_check_keys(const uint8_t *keys, size_t keys_len, size_t *length);
 
@@ -73,7 +76,8 @@ uint32_t archive_found(const uint8_t *keys, size_t keys_len, const uint8_t *vers
 uint32_t archive_add(const uint8_t *keys, size_t keys_len, const uint8_t *archive, size_t archive_len,
                      const uint8_t *version, size_t version_len, uint8_t *out, size_t out_len, size_t *length);
 
-/* Retrieves version i, from 1 to n: the result is its written form. Returns 0, 2 to 4, 10, 11 or 14. */
+/* Retrieves version i, from 1 to n: the result is its written form; empty (0, *length 0) if it is vacant.
+ * Returns 0, 2 to 4, 10, 11 or 14. */
 uint32_t archive_retrieve(const uint8_t *keys, size_t keys_len, const uint8_t *archive, size_t archive_len,
                           size_t i, uint8_t *out, size_t out_len, size_t *length);
 

@@ -21,11 +21,12 @@ static uint32_t hand_back(const uint8_t *archive, size_t archive_len, uint32_t n
     return ARCHIVE_DONE;
 }
 
-/* 1: an add that hands back its archive. */
+/* 1: an add that hands back its archive. 10: one that does so of an empty version, as if none were added. */
 uint32_t __real_archive_add(LENT, const uint8_t *version, size_t version_len, RESULT);
 uint32_t __wrap_archive_add(LENT, const uint8_t *version, size_t version_len, RESULT) {
     uint32_t number = __real_archive_add(LENT_ON, version, version_len, RESULT_ON);
-    return FAULT == 1 ? hand_back(archive, archive_len, number, out, length) : number;
+    int absent = FAULT == 10 && version_len == 0;
+    return FAULT == 1 || absent ? hand_back(archive, archive_len, number, out, length) : number;
 }
 
 /* 2: a step back that does so. */

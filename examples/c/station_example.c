@@ -1,6 +1,6 @@
-/* Document 01's record of one station, through the C entries, and document 02's marks on it: each step says what it does
- * and what came back. Exit status 1 if a number, a length, a version, a result, the rest of an output or the table of
- * marks is not what the papers say. */
+/* Document 01's record of one station, through the C entries, and document 02's marks and vacant versions on it: each
+ * step says what it does and what came back. Exit status 1 if a number, a length, a version, a result, the rest of an
+ * output or the table of marks is not what the papers say. */
 #include "station_archive.h"
 
 #include <stdio.h>
@@ -31,6 +31,14 @@ static const char line2[] = "<T t=\"1-2\"><station><T t=\"2\"><lamp><pos>1</pos>
 static const char line3[] = "<T t=\"1-3\"><station><T t=\"2-3\"><lamp><pos>1</pos><type>B</type></lamp></T>"
                             "<T t=\"1-2\"><lamp><hours><T t=\"1\">40</T><T t=\"2\">90</T></hours><pos>2</pos><type>A</type></lamp></T>"
                             "<light>Fl 5s</light></station></T>";
+
+/* The archive after the station is struck off, and after it is relit as v3: the root is in a T of its own. */
+static const char line4[] = "<T t=\"1-4\"><T t=\"1-3\"><station><T t=\"2-3\"><lamp><pos>1</pos><type>B</type></lamp></T>"
+                            "<T t=\"1-2\"><lamp><hours><T t=\"1\">40</T><T t=\"2\">90</T></hours><pos>2</pos><type>A</type></lamp></T>"
+                            "<light>Fl 5s</light></station></T></T>";
+static const char line5[] = "<T t=\"1-5\"><T t=\"1-3,5\"><station><T t=\"2-3,5\"><lamp><pos>1</pos><type>B</type></lamp></T>"
+                            "<T t=\"1-2\"><lamp><hours><T t=\"1\">40</T><T t=\"2\">90</T></hours><pos>2</pos><type>A</type></lamp></T>"
+                            "<light>Fl 5s</light></station></T></T>";
 
 /* What every call is lent here: the archive so far, an output, a place for the length. */
 static uint8_t archive[ARCHIVE_LENGTH_ARCHIVE];
@@ -106,7 +114,8 @@ static void history(const char *step, const char *address, const char *text) {
     told(step, archive_history(TEXT(keys), archive, archive_len, TEXT(address), out, out_len, &length), ARCHIVE_DONE, text);
 }
 
-/* The archive is not kept: each step back by number here is from line 3, with a table of unused entries. */
+/* The archive is not kept: each step back by number here is from line 3, with a table of unused entries, or from line 5,
+ * with one mark, of version 1. */
 static void back(const char *step, size_t i, uint32_t number, const char *text) {
     size_t out_len = lend();
     told(step, archive_back(TEXT(keys), archive, archive_len, marks, sizeof marks, i, out, out_len, &length), number, text);
@@ -174,6 +183,22 @@ static void named_versions(void) {
          ARCHIVE_MARKS_ILLEGAL, "");
 }
 
+/* The record again, from line 3 on: a version that is empty strikes the station off, v3 relights it. */
+static void out_of_commission(void) {
+    add("add v2 again", v2, ARCHIVE_DONE, line2);
+    add("add v3 again", v3, ARCHIVE_DONE, line3);
+    add("P8 strike off: add an empty version", "", ARCHIVE_DONE, line4);
+    add("relight: add v3", v3, ARCHIVE_DONE, line5);
+    retrieve("retrieve 4, vacant", 4, ARCHIVE_DONE, "");
+    retrieve("retrieve 5", 5, ARCHIVE_DONE, written3);
+    history("history of the station", "/station", "1-3,5");
+    back("back to 4, vacant", 4, ARCHIVE_DONE, line4);
+    back("back to 3, across it", 3, ARCHIVE_DONE, line3);
+    found("found from white space alone", " \t\r\n", ARCHIVE_DONE, "<T t=\"1\"></T>");
+    add("strike off again", "\n", ARCHIVE_DONE, "<T t=\"1-2\"></T>");
+    history("history of a station never lit", "/station", "");
+}
+
 /* The key list, the same with one of its LFs missing, and an output one byte short. */
 static void keys_and_short_output(void) {
     lend();
@@ -199,10 +224,10 @@ int main(void) {
     retrieve("retrieve 3", 3, ARCHIVE_DONE, written3);
     back("P6 back to 0", 0, ARCHIVE_VERSION, "");
     retrieve("P7 retrieve 4", 4, ARCHIVE_VERSION, "");
-    add("P8 add an empty version", "", ARCHIVE_XML, "");
     add("P9 add two lamps with pos 2", "<station><lamp><pos>2</pos></lamp><lamp><pos>2</pos></lamp></station>", ARCHIVE_SIBLINGS, "");
     add("P10 add a lamp with no pos", "<station><lamp><type>A</type></lamp></station>", ARCHIVE_KEY, "");
     named_versions();
+    out_of_commission();
     printf("%d steps, %d not as the papers say\n", steps, wrong);
     return wrong != 0;
 }

@@ -25,7 +25,7 @@ use Rattle.timestamp.specs.Times.{always, writeTimes, lastNumber}
 use Rattle.timestamp.specs.Set.{upTo}
 use Rattle.timestamp.specs.Listed.{textOf}
 use Rattle.versions.specs.Archive.{lastVersion}
-use Rattle.versions.specs.Walk.{timesIn, canonical, ever, isSole, siblingsLegal, allSmall, insideOf, forestLegal, addIn, addForest}
+use Rattle.versions.specs.Walk.{timesIn, canonical, ever, siblingsLegal, allSmall, insideOf, forestLegal, addIn, addForest}
 use Rattle.versions.specs.AllTimed.{AllTimed, timed-forest}
 use Rattle.versions.specs.SetLaws.{timesIn-write}
 use Rattle.versions.specs.AddParts.{Says, LegalSet, inside, SiblingsIn}
@@ -84,8 +84,7 @@ outer K n {src} {cells} {hi} (at-stamp {t = s} {k = k} {r = r} d i a) h l =
     let m = lastNumber s in
     let h7 = both-true _ (allSmall m k) h in
     let h6 = both-true _ (siblingsLegal K m [] (always m) k) (h7 .0) in
-    let h5 = both-true _ (isSole k) (h6 .0) in
-    let h4 = both-true _ (leb (nodes k) 1024) (h5 .0) in
+    let h4 = both-true _ (leb (nodes k) 1024) (h6 .0) in
     let h3 = both-true _ (same s (writeTimes (always m))) (h4 .0) in
     let h2 = both-true _ (leb m 999) (h3 .0) in
     let z : r ≡ end = end-is r (both-true (isEnd r) (leb 1 m) (h2 .0) .0) in

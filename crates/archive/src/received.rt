@@ -5,6 +5,7 @@ use keys::keyed::is_unkeyed;
 use keys::measure::too_large;
 use keys::placed::is_misplaced;
 use xml::Reply;
+use xml::compare::is_white;
 use xml::reader::read;
 ghost use Prim.Native.Nat.{_≤_};
 ghost use lib.ListN.{length};
@@ -46,7 +47,8 @@ fn accept(
     }
 }
 
-// Reads a version's text by way of the work cells, and puts it onto `canon` in canonical order.
+// Receives a version's text: one of white space alone has no node, a station out of commission; any other is read by way of the work
+// cells, and put onto `canon` in canonical order.
 pub(crate) fn receive(
     text: &[u8],
     table: &[u32],
@@ -58,6 +60,9 @@ pub(crate) fn receive(
     requires { ⌜ Tabled (now text) (now table) n × (length (now src) ≤ 16384) × Roomy (now src) (now work) × (1024 ≤ length (now canon)) ⌝ }
     ensures { λ r. ⌜ Receives (now (text .entry)) (now (table .entry)) n (now (src .entry)) (now (canon .exit)) r ⌝ }
 {
+    if is_white(src, 0, src.len()) {
+        return Received::Done(0);
+    }
     match read(src, false, work) {
         Reply::Done(count) => accept(text, table, n, src, work, count, canon),
         Reply::Wrong(p) => Received::Back(5),

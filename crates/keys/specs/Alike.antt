@@ -1,12 +1,11 @@
 -- Forests, and the texts of them, that differ only in the order of keyed siblings.
 use mathlib.Core.Path.{_≡_}
-use mathlib.Core.Bool.{true, false}
+use mathlib.Core.Bool.{true}
 use mathlib.Core.List.{List, [], _∷_}
 use Rattle.xml.specs.Bytes.{Bytes}
 use Rattle.xml.specs.Forest.{Forest, elem, text}
-use Rattle.xml.specs.Grammar.{Spells}
 use Rattle.keys.specs.KeyList.{Path, KeyList, above}
-use Rattle.keys.specs.Version.{_▸_}
+use Rattle.keys.specs.Version.{_▸_, VersionSpells}
 
 -- two forests in an element of path p, [] for the root: one comes from the other by steps of these kinds, any number of them
 pub data Alike (K : KeyList) : Path → Forest → Forest → Type 0 where
@@ -28,8 +27,8 @@ pub data Alike (K : KeyList) : Path → Forest → Forest → Type 0 where
 pub record AnyOrder (K : KeyList) (s t : Bytes) : Type 0 where
   pub first : Forest
   pub second : Forest
-  pub first-spelled : Spells false s first
-  pub second-spelled : Spells false t second
+  pub first-spelled : VersionSpells s first
+  pub second-spelled : VersionSpells t second
   pub alike : Alike K [] first second
 
 -- of two lists of texts, number by number

@@ -5,12 +5,12 @@ use mathlib.Core.List.{List, [], _∷_, map}
 use Rattle.xml.specs.Bytes.{Bytes, all, isWhite}
 use Rattle.xml.specs.Truth.{by-test, or-left, or-right, and-false}
 use Rattle.xml.specs.Forest.{Forest, elem, text}
-use Rattle.xml.specs.Complete.{read-complete}
 use Rattle.keys.specs.Result.{ok, r6, r7, r8, r9}
 use Rattle.keys.specs.ResultLaws.{refuse-both}
 use Rattle.keys.specs.KeyList.{Path, KeyList, keyList, above, rulesKept}
 use Rattle.keys.specs.KeyListLaws.{beneath, rules-kept}
 use Rattle.keys.specs.Version.{_▸_, label, sameLabel, find, isSome, dropWhite, tooLarge, misplaced, unkeyed, doubled, insertBy, ordered, parsed, version}
+use Rattle.keys.specs.VersionRead.{readVersion-complete}
 use Rattle.keys.specs.Alike.{Alike, swapped, moved, inside, past, beyond, as-is, backwards, then, AnyOrder, EachInAnyOrder, none, more}
 use Rattle.keys.specs.DropLaws.{drop-run, keep-run, label-drop, unkeyed-drop, doubled-drop}
 use Rattle.keys.specs.Sorting.{ordered-elem, misplaced-kids, misplaced-rest, sorted}
@@ -110,7 +110,7 @@ module _ (keys : Bytes) (K : KeyList) (legal : keyList keys ≡ ok K) where
       let rules = rules-kept keys K legal in
       let v = dropWhite K [] (o .first) in
       let plain = unkeyed-drop K rules [] (o .first) in
-      rw (read-complete false s (o .first) (o .first-spelled), read-complete false t (o .second) (o .second-spelled))
+      rw (readVersion-complete s (o .first) (o .first-spelled), readVersion-complete t (o .second) (o .second-spelled))
       (refuse-both r6 (tooLarge v) (large-alike K x) (λ _.
       refuse-both r7 (misplaced K [] v) (misplaced-alike K x) (λ h.
       refuse-both r8 (unkeyed K [] v) (plain ∙ unkeyed-alike K rules x ∙ sym (unkeyed-drop K rules [] (o .second))) (λ e.

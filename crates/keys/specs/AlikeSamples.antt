@@ -1,18 +1,17 @@
--- Version 1 of the record of one station with its keyed siblings in another order; and elements whose order counts.
+-- Version 1 of the record of one station with its keyed siblings in another order; two vacant texts; and elements whose order counts.
 use Prim.Native.Nat.{ℕ}
 use native.Mathlib.Omega.{arith}
 use mathlib.Core.Path.{_≡_, refl, sym, _∙_, ap}
-use mathlib.Core.Bool.{false}
 use mathlib.Core.List.{[]}
 use lib.ListN.{getD}
 use Rattle.xml.specs.Bytes.{Bytes, bytes}
 use Rattle.xml.specs.Forest.{Forest, end, elem, text, write}
-use Rattle.xml.specs.Sound.{read-sound}
 use Rattle.keys.specs.Result.{Result, refused, ok}
 use Rattle.keys.specs.ResultLaws.{ok-inj}
 use Rattle.keys.specs.KeyList.{KeyList, keyList}
 use Rattle.keys.specs.Version.{version, version-compute}
-use Rattle.keys.specs.Alike.{swapped, moved, inside, beyond, backwards, then, AnyOrder}
+use Rattle.keys.specs.VersionRead.{readVersion-sound}
+use Rattle.keys.specs.Alike.{swapped, moved, inside, beyond, as-is, backwards, then, AnyOrder}
 use Rattle.keys.specs.AlikeKept.{any-order}
 
 abbrev keys : Bytes
@@ -41,8 +40,8 @@ lamp-first =
     record {
       first = station (light (lamp end));
       second = station (lamp (light end));
-      first-spelled = read-sound false _ _ refl;
-      second-spelled = read-sound false _ _ refl;
+      first-spelled = readVersion-sound _ _ refl;
+      second-spelled = readVersion-sound _ _ refl;
       alike = inside (swapped refl);
     }
 
@@ -53,10 +52,15 @@ lamp-first-spaced =
     record {
       first = station (light (text (bytes "\n") (lamp end)));
       second = station (lamp (text (bytes "\n") (light end)));
-      first-spelled = read-sound false _ _ refl;
-      second-spelled = read-sound false _ _ refl;
+      first-spelled = readVersion-sound _ _ refl;
+      second-spelled = readVersion-sound _ _ refl;
       alike = inside (then (moved refl) (then (beyond (swapped refl)) (backwards (moved refl))));
     }
+
+-- a vacant version, empty or of white space
+pub both-vacant : AnyOrder K [] (bytes " \n")
+unfolding version-compute
+both-vacant = record { first = end; second = end; first-spelled = readVersion-sound _ _ refl; second-spelled = readVersion-sound _ _ refl; alike = as-is }
 
 -- ---- beneath a frontier elements have their order
 abbrev ab : Bytes

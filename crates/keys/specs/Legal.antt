@@ -4,7 +4,7 @@ use mathlib.Core.Bool.{Bool, true, false, not, _&&_}
 use mathlib.Core.Option.{Option, none, some}
 use mathlib.Core.List.{List, [], _∷_}
 use Rattle.xml.specs.Bytes.{Bytes, bytes, same, isName, isValue}
-use Rattle.xml.specs.Forest.{Forest, end, elem, text, stamp, Tidy, Root}
+use Rattle.xml.specs.Forest.{Forest, end, elem, text, stamp, Tidy}
 use Rattle.model.specs.Keyed.{Tree, nil, node, look, Ascending}
 use Rattle.model.specs.Orders.{labels}
 use Rattle.keys.specs.KeyList.{Path, KeyList, listed, above, keyNamesAt}
@@ -12,10 +12,17 @@ use Rattle.keys.specs.Version.{_▸_, Label, nameIn, tooLarge, misplaced
 use Rattle.keys.specs.Address.{valuesIn}
 use Rattle.keys.specs.Tree.{Content, inner, front}
 
+-- one root element, or none
+abbrev pub RootOrNone : Forest → Type 0
+RootOrNone end = Unit {0}
+RootOrNone (elem n k r) = r ≡ end
+RootOrNone (text b r) = ⊥
+RootOrNone (stamp t k r) = r ≡ end
+
 -- a forest that is a version of some text
 pub record LegalVersion (K : KeyList) (v : Forest) : Type 0 where
   pub tidy : Tidy false v
-  pub root : Root v
+  pub root : RootOrNone v
   pub small : tooLarge v ≡ false
   pub placed : misplaced K [] v ≡ false
   pub keyed : unkeyed K [] v ≡ false
@@ -68,12 +75,12 @@ KeyContent c v o = o ≡ some (front (text v end))
 abbrev pub LawfulVersion : KeyList → Path → Tree Label Content → Type 0
 LawfulVersion K p t = Lawful K InnerContent FrontContent KeyContent p t
 
--- one element and no other beside it
-abbrev pub Sole : {E : Type 0} → Tree Label E → Type 0
-Sole nil = ⊥
-Sole (node l e k r) = r ≡ nil
+-- one element at most
+abbrev pub AtMostOne : {E : Type 0} → Tree Label E → Type 0
+AtMostOne nil = Unit {0}
+AtMostOne (node l e k r) = r ≡ nil
 
 pub record LegalTree (K : KeyList) (t : Tree Label Content) : Type 0 where
   pub ascends : Ascending labels t
   pub lawful : LawfulVersion K [] t
-  pub sole : Sole t
+  pub sole : AtMostOne t

@@ -1,6 +1,7 @@
 pub mod Result
 pub mod KeyList
 pub mod Version
+pub mod VersionRead
 pub mod Address
 pub mod Tree
 pub mod Legal

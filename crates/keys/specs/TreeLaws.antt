@@ -4,7 +4,7 @@ use mathlib.Core.Bool.{Bool, true, false, not}
 use mathlib.Core.List.{[]}
 use borrow.Author.Tests.{not-false}
 use Rattle.xml.specs.Bytes.{Bytes, all, isName}
-use Rattle.xml.specs.Forest.{Forest, end, elem, text, stamp, Tidy, Root}
+use Rattle.xml.specs.Forest.{Forest, end, elem, text, stamp, Tidy}
 use Rattle.model.specs.Keyed.{Tree, Ascending}
 use Rattle.model.specs.Orders.{labels}
 use Rattle.model.specs.Masks.{clash}
@@ -14,7 +14,7 @@ use Rattle.keys.specs.KeyListLaws.{root-above}
 use Rattle.keys.specs.Version.{_▸_, Label, called, isOneValue, label, nameIn, misplaced, unkeyed}
 use Rattle.keys.specs.Address.{valuesIn}
 use Rattle.keys.specs.Tree.{Content, keyed}
-use Rattle.keys.specs.Legal.{LegalVersion, untimed, Kind, Lawful, InnerContent, FrontContent, LawfulVersion, Sole, LegalTree}
+use Rattle.keys.specs.Legal.{RootOrNone, LegalVersion, untimed, Kind, Lawful, InnerContent, FrontContent, LawfulVersion, AtMostOne, LegalTree}
 use Rattle.keys.specs.TreeParts.{contentOf, kidsOf, keyed-elem, three-false, placed-elem}
 use Rattle.keys.specs.Ascents.{elem-ascending, ascending}
 use Rattle.keys.specs.KeyFound.{keys-found}
@@ -75,9 +75,9 @@ module _ (K : KeyList) (rules : rulesKept K ≡ true) where
       (lawful-kids (above K (p ▸ n)) (p ▸ n) (keyed K (p ▸ n) k) (λ b i. lawful (p ▸ n) k b (d .1) (w .2) (v .1) i) (z .1))
       (lawful p r a (d .2) (w .3) (v .2) (z .2))
 
-sole-tree : (K : KeyList) (v : Forest) → Root v → misplaced K [] v ≡ false → Sole (keyed K [] v)
+sole-tree : (K : KeyList) (v : Forest) → RootOrNone v → misplaced K [] v ≡ false → AtMostOne (keyed K [] v)
 unfolding keyed misplaced
-sole-tree K end o m = absurd o
+sole-tree K end o m = tt
 sole-tree K (text b r) o m = absurd o
 sole-tree K (stamp t k r) o m = absurd (clash refl m)
 sole-tree K (elem n k r) o m = rw (keyed-elem K [] n k r) (ap (keyed K []) o)

@@ -5,7 +5,7 @@ use mathlib.Core.Path.{_≡_, refl, ap, sym, _∙_}
 use mathlib.Core.Bool.{Bool, true, false, not, _&&_, _||_}
 use mathlib.Core.List.{[]}
 use Rattle.xml.specs.Bytes.{Bytes, bytes, same}
-use Rattle.xml.specs.Forest.{Forest, end, elem, text, stamp, Root, depth}
+use Rattle.xml.specs.Forest.{Forest, end, elem, text, stamp, depth}
 use Rattle.model.specs.Keyed.{Tree, nil, node}
 use Rattle.model.specs.Direct.{height}
 use Rattle.model.specs.Masks.{clash}
@@ -13,7 +13,7 @@ use Rattle.xml.specs.Truth.{bool-by, or-left}
 use Rattle.keys.specs.KeyList.{Path, KeyList, listed, above}
 use Rattle.keys.specs.Version.{_▸_, Label, label, nameIn, misplaced}
 use Rattle.keys.specs.Tree.{Content, inner, front, keyed, forestOf}
-use Rattle.keys.specs.Legal.{LegalVersion}
+use Rattle.keys.specs.Legal.{RootOrNone, LegalVersion}
 
 -- of an element, by whether its path is above a frontier
 abbrev pub contentOf : Bool → Forest → Content
@@ -86,9 +86,9 @@ forest-of K p (elem n k r) a m =
     ∙ held-by (above K (p ▸ n)) k (keyed K (p ▸ n) k) (λ e. forest-of K (p ▸ n) k e (w .2)) (label K p n k) (keyed K p r)
     ∙ ap (elem n k) (forest-of K p r a (w .3))
 
-forest-root : (K : KeyList) (v : Forest) → Root v → misplaced K [] v ≡ false → forestOf (keyed K [] v) ≡ v
+forest-root : (K : KeyList) (v : Forest) → RootOrNone v → misplaced K [] v ≡ false → forestOf (keyed K [] v) ≡ v
 unfolding misplaced keyed forestOf label nameIn
-forest-root K end o m = absurd o
+forest-root K end o m = refl
 forest-root K (text b r) o m = absurd o
 forest-root K (stamp t k r) o m = absurd (clash refl m)
 forest-root K (elem n k r) o m =

@@ -6,11 +6,11 @@ use mathlib.Core.List.{[]}
 use Rattle.model.specs.Keyed.{Tree, nil, node, Before, Ascending}
 use Rattle.model.specs.Looked.{before-trans}
 use Rattle.model.specs.Orders.{labels, isEq, isLt}
-use Rattle.xml.specs.Forest.{Forest, elem, Tidy, Root}
+use Rattle.xml.specs.Forest.{Forest, elem, Tidy}
 use Rattle.keys.specs.KeyList.{Path, KeyList, rulesKept, above}
 use Rattle.keys.specs.Version.{_▸_, Label, tooLarge, misplaced, unkeyed, label, nameIn, sameLabel, before, find, isSome, doubled, insertBy, ordered}
 use Rattle.keys.specs.Tree.{Content, inner, front, keyed, heldBy, forestOf}
-use Rattle.keys.specs.Legal.{LegalVersion, Kind, Lawful, InnerContent, FrontContent, LawfulVersion, Sole, LegalTree}
+use Rattle.keys.specs.Legal.{RootOrNone, LegalVersion, Kind, Lawful, InnerContent, FrontContent, LawfulVersion, AtMostOne, LegalTree}
 use Rattle.xml.specs.Truth.{or-both}
 use Rattle.keys.specs.KeyListLaws.{root-above}
 use Rattle.keys.specs.Beneath.{front-placed, front-keyed, front-single, front-ordered}
@@ -91,9 +91,9 @@ good K u p a (node l e k r) c h =
         f (record { tidy = w .0 .0; placed = front-placed K q v b (w .0 .1); keys = front-keyed K q v b; single = front-single K q v b; ascends = front-ordered K q v b })
         (rw (b, keyed) (ap₂ (λ x y. node x (front v) y (keyed K p (forestOf r))) d (sym (w .1))))
 
-sole-root : (t : Tree Label Content) → Sole t → Root (forestOf t)
+sole-root : (t : Tree Label Content) → AtMostOne t → RootOrNone (forestOf t)
 unfolding forestOf
-sole-root nil s = s
+sole-root nil s = tt
 sole-root (node l e k r) s = ap forestOf s
 
 pub tree-legal : (K : KeyList) (t : Tree Label Content) → rulesKept K ≡ true → LegalTree K t → tooLarge (forestOf t) ≡ false → LegalVersion K (forestOf t)

@@ -9,6 +9,7 @@ use lib.ListN.{length}
 use Rattle.xml.specs.Bytes.{Bytes, bytes, all, same, isWhite, isValue}
 use Rattle.keys.specs.Result.{Result, refused, ok, _>>=_, _>>_, refuse, r5, r6, r7, r8, r9}
 use Rattle.xml.specs.Forest.{Forest, end, elem, text, stamp, write, nodes, depth}
+use Rattle.xml.specs.Grammar.{Spells}
 use Rattle.xml.specs.Read.{Outcome, whole, broken, read, read-compute}
 use Rattle.model.specs.Orders.{labels, isEq, isLt, labels-compute}
 use Rattle.keys.specs.KeyList.{Path, KeyList, listed, above, keyNamesAt, keys-compute}
@@ -139,10 +140,19 @@ unfoldable pub parsed : Outcome → Result Forest
 parsed (whole f) = ok f
 parsed (broken p) = refused r5
 
+-- what a version's text spells: one root element; or, Q-6's "A version that is empty or white space alone is now legal", nothing
+pub data VersionSpells : Bytes → Forest → Type 0 where
+  rooted : {s : Bytes} {f : Forest} → Spells false s f → VersionSpells s f
+  vacant : {s : Bytes} → all isWhite s ≡ true → VersionSpells s end
+
+-- the same by reading; that it is the same: `readVersion-sound`, `readVersion-complete`
+unfoldable pub readVersion : Bytes → Outcome
+readVersion s = elim (all isWhite s) [ true ↦ whole end | false ↦ read false s ]
+
 -- the version of a text, in the order of its written form; 5 to 9 of the table
 unfoldable pub version : KeyList → Bytes → Result Forest
 version K s = do
-  f ← parsed (read false s)
+  f ← parsed (readVersion s)
   let v = dropWhite K [] f
   refuse r6 (tooLarge v)
   refuse r7 (misplaced K [] v)
@@ -151,5 +161,5 @@ version K s = do
   ok (ordered K [] v)
 
 unfoldable pub version-compute : Unit {0}
-unfolding read-compute keys-compute labels-compute dropWhite tooLarge misplaced called isKeyValue isOneValue unkeyed runIn valueIn label nameIn sameLabel before find isSome doubled insertBy ordered parsed version
+unfolding read-compute keys-compute labels-compute dropWhite tooLarge misplaced called isKeyValue isOneValue unkeyed runIn valueIn label nameIn sameLabel before find isSome doubled insertBy ordered parsed readVersion version
 version-compute = tt

@@ -3,13 +3,13 @@ use mathlib.Core.Path.{_≡_, refl, sym, _∙_, ap, subst}
 use mathlib.Core.Bool.{true, false, _&&_}
 use mathlib.Core.List.{[]}
 use Rattle.xml.specs.Bytes.{Bytes, all, isWhite, isName}
-use Rattle.xml.specs.Forest.{Forest, end, elem, text, stamp, write, NotText, Tidy, Root}
-use Rattle.xml.specs.Read.{Outcome, whole, broken, read}
-use Rattle.xml.specs.RoundTrip.{read-write, read-tidy, same-written}
+use Rattle.xml.specs.Forest.{Forest, end, elem, text, stamp, write, NotText, Tidy}
+use Rattle.xml.specs.Read.{Outcome, whole, broken}
 use Rattle.keys.specs.Result.{ok, r6, r7, r8, r9}
 use Rattle.keys.specs.KeyList.{Path, KeyList, above}
-use Rattle.keys.specs.Version.{_▸_, dropWhite, tooLarge, misplaced, unkeyed, doubled, insertBy, ordered, parsed, version}
-use Rattle.keys.specs.Legal.{LegalVersion}
+use Rattle.keys.specs.Version.{_▸_, dropWhite, tooLarge, misplaced, unkeyed, doubled, insertBy, ordered, parsed, readVersion, version}
+use Rattle.keys.specs.Legal.{RootOrNone, LegalVersion}
+use Rattle.keys.specs.VersionRead.{readVersion-tidy, readVersion-write, readVersion-same}
 use Rattle.xml.specs.Truth.{clash, bool-by, or-left, or-right}
 use Rattle.keys.specs.ResultLaws.{refused-ok, ok-inj, bind-inv, passed}
 use Rattle.keys.specs.Sorting.{Into, here, after, Sorting, kept, empty, put, misplaced-kids, misplaced-rest, sorted}
@@ -29,7 +29,7 @@ drop-tidy K p (text b r) h =
     × (⊥ → NotText (elim x as (λ _. Forest) [ true ↦ dropWhite K p r | false ↦ text b (dropWhite K p r) ])))
     (above K p && all isWhite b) (λ _. (i .0, λ t. absurd t)) (λ _. ((h .0, h .1, i .1 (h .2), i .0), λ t. absurd t))
 
-drop-root : (K : KeyList) (f : Forest) → Tidy false f → Root f → Root (dropWhite K [] f)
+drop-root : (K : KeyList) (f : Forest) → Tidy false f → RootOrNone f → RootOrNone (dropWhite K [] f)
 unfolding dropWhite
 drop-root K end h o = o
 drop-root K (text b r) h o = absurd o
@@ -55,17 +55,17 @@ sorted-tidy (kept a) h = h
 sorted-tidy (empty a) h = h
 sorted-tidy (put a x y i) h = into-tidy (h .0) (sorted-tidy x (h .1)) i (sorted-tidy y (h .2))
 
-ordered-root : (K : KeyList) (p : Path) (f : Forest) → Root f → Root (ordered K p f)
+ordered-root : (K : KeyList) (p : Path) (f : Forest) → RootOrNone f → RootOrNone (ordered K p f)
 unfolding ordered insertBy
 ordered-root K p end o = o
 ordered-root K p (text b r) o = absurd o
 ordered-root K p (stamp t k r) o = rw o refl
 ordered-root K p (elem n k r) o =
-    subst (λ z. Root (ordered K p (elem n k z))) (sym o)
-    (bool-by (λ x. Root (elim x as (λ _. Forest) [ true ↦ insertBy K p n (ordered K (p ▸ n) k) end | false ↦ elem n k end ])) (above K p) (λ _. refl) (λ _. refl))
+    subst (λ z. RootOrNone (ordered K p (elem n k z))) (sym o)
+    (bool-by (λ x. RootOrNone (elim x as (λ _. Forest) [ true ↦ insertBy K p n (ordered K (p ▸ n) k) end | false ↦ elem n k end ])) (above K p) (λ _. refl) (λ _. refl))
 
 -- what the refusals 6 to 9 leave is, sorted, a legal version
-ordered-legal : (K : KeyList) (f : Forest) → Tidy false f → Root f → tooLarge f ≡ false → misplaced K [] f ≡ false → unkeyed K [] f ≡ false
+ordered-legal : (K : KeyList) (f : Forest) → Tidy false f → RootOrNone f → tooLarge f ≡ false → misplaced K [] f ≡ false → unkeyed K [] f ≡ false
     → doubled K [] f ≡ false → LegalVersion K (ordered K [] f)
 ordered-legal K f h o s m u d =
     let t = sorted K [] f m in
@@ -79,7 +79,7 @@ ordered-legal K f h o s m u d =
       ascends = sorted-again t u d;
     }
 
-parsed-inv : (o : Outcome) (f : Forest) → parsed o ≡ ok f → o ≡ whole f
+pub parsed-inv : (o : Outcome) (f : Forest) → parsed o ≡ ok f → o ≡ whole f
 unfolding parsed
 parsed-inv (whole g) f e = cc
 parsed-inv (broken p) f e = refused-ok e
@@ -88,13 +88,13 @@ parsed-inv (broken p) f e = refused-ok e
 pub version-legal : (K : KeyList) (s : Bytes) (v : Forest) → version K s ≡ ok v → LegalVersion K v
 unfolding version
 version-legal K s v e =
-    let f = bind-inv (parsed (read false s)) _ v e in
+    let f = bind-inv (parsed (readVersion s)) _ v e in
     let w = dropWhite K [] (f .0) in
     let x6 = passed r6 (tooLarge w) _ v (f .2) in
     let x7 = passed r7 (misplaced K [] w) _ v (x6 .1) in
     let x8 = passed r8 (unkeyed K [] w) _ v (x7 .1) in
     let x9 = passed r9 (doubled K [] w) _ v (x8 .1) in
-    let t = read-tidy false s (f .0) (parsed-inv (read false s) (f .0) (f .1)) in
+    let t = readVersion-tidy s (f .0) (parsed-inv (readVersion s) (f .0) (f .1)) in
     subst (LegalVersion K) (ok-inj (x9 .1))
     (ordered-legal K w (drop-tidy K [] (f .0) (t .0) .0) (drop-root K (f .0) (t .0) (t .1)) (x6 .0) (x7 .0) (x8 .0) (x9 .0))
 
@@ -102,8 +102,8 @@ version-legal K s v e =
 pub legal-version : (K : KeyList) (v : Forest) → LegalVersion K v → version K (write v) ≡ ok v
 unfolding version parsed
 legal-version K v l =
-    rw (read-write false v (l .root) (l .tidy), drop-placed K [] v (l .placed), l .small, l .placed, l .keyed, l .single, l .ascends)
+    rw (readVersion-write v (l .root) (l .tidy), drop-placed K [] v (l .placed), l .small, l .placed, l .keyed, l .single, l .ascends)
 
 -- two versions with one written form are one version
 pub same-version : (K : KeyList) (v w : Forest) → LegalVersion K v → LegalVersion K w → write v ≡ write w → v ≡ w
-same-version K v w l m = same-written false v w (l .tidy) (l .root) (m .tidy) (m .root)
+same-version K v w l m = readVersion-same v w (l .root) (l .tidy) (m .root) (m .tidy)

@@ -1,6 +1,5 @@
 // An archive's text opened: read onto the work cells, and judged. The outer `T` is judged first, then what it holds.
 use crate::front::is_timed;
-use crate::legal::is_sole;
 use crate::legal::siblings_legal;
 use crate::sizes::all_small;
 use crate::times::times_at;
@@ -107,9 +106,6 @@ fn inside_legal(
         → Tape (now (src .entry)) (now (tape .entry)) 1 hi k → r ≡ insideLegal K n k) ⌝ }
 {
     if 1024 < count_nodes(src, tape, 1, hi) {
-        return false;
-    }
-    if !is_sole(tape, 1, hi) {
         return false;
     }
     let all = Timestamp::up_to(n);

@@ -6,6 +6,7 @@ mod output;
 mod refusal;
 mod size;
 mod text;
+mod vacant;
 mod version;
 
 // The limits.
@@ -32,4 +33,5 @@ fn main() {
     refuse(keys, &mut text, &mut a, &mut work);
     size::archive_nodes(keys, &mut text, &mut a, &mut b, &mut work);
     mark::marks(keys, &mut a, &mut work);
+    vacant::vacancies(keys, &mut text, &mut a, &mut work);
 }

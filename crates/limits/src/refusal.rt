@@ -30,7 +30,7 @@ pub fn key_refusals(keys: &[u8], text: &mut [u8], work: &mut [u32]) {
 
 // The version's text: 5 and 6.
 fn text_refusals(keys: &[u8], text: &mut [u8], out: &mut [u8], work: &mut [u32]) {
-    founds(b"refusal 5", keys, b"", 32768, out, work);
+    founds(b"refusal 5", keys, b"<s>", 32768, out, work);
     let over = put_version(text, b">", 4093, b"");
     founds(b"refusal 6", keys, &text[..over], 32768, out, work);
 }

@@ -27,7 +27,8 @@ use Rattle.keys.specs.TreeParts.{forest-tree}
 use Rattle.timestamp.specs.Times.{Times, sameTimes, always, writeTimes}
 use Rattle.timestamp.specs.TimesLaws.{times-is}
 use Rattle.versions.specs.Archive.{Archive, wrap, holding, stamped, archiveForest}
-use Rattle.versions.specs.Lawful.{InnerEntry, FrontEntry, LawfulArchive, Rooted, LegalArchive}
+use Rattle.versions.specs.Lawful.{InnerEntry, FrontEntry, LawfulArchive, LegalArchive}
+use Rattle.versions.specs.BackLaws.{any-always}
 use Rattle.versions.specs.Walk.{insideOf, newest, addContent, addNew, addAt, addIn, addForest}
 use Rattle.versions.specs.SetLaws.{timesIn-write}
 use Rattle.versions.specs.StampedLabels.{held-inner, wrap-bare, label-stamped}
@@ -149,18 +150,12 @@ always-more : (n : ℕ) → always n ▷ true ≡ always (suc n)
 unfolding always
 always-more n = replicate-append-replicate n 1 true ∙ ap (λ m. replicate m true) (add-one n)
 
--- the root is in some version, so there is one
-some-version : (n : ℕ) (a : Archive) → WFS labels contents n a → Rooted n a → any (always n) ≡ true
-unfolding WFBy
-some-version n nil w h = absurd h
-some-version n (node l gs k r) w h = ap any (sym (h .1)) ∙ is-true (any (maskG n gs)) (w .1)
-
-pub add-archive : (K : KeyList) (n : ℕ) (a : Archive) (v : Forest) → rulesKept K ≡ true → LegalArchive K n a → suc n ≤ 999 → LegalVersion K v
+pub add-archive : (K : KeyList) (n : ℕ) (a : Archive) (v : Forest) → rulesKept K ≡ true → LegalArchive K n a → 1 ≤ n → suc n ≤ 999 → LegalVersion K v
     → addForest K n v (archiveForest n a) ≡ archiveForest (suc n) (mergeS labels contents n a (keyed K [] v))
 unfolding addForest archiveForest insideOf
-add-archive K n a v rules h u g =
+add-archive K n a v rules h i u g =
     let t = legal-tree K v rules g in
     ap (λ f. stamp (writeTimes (always (suc n))) f end)
     (ap (addIn K n [] (always n) (stamped n (always n) a)) (sym (forest-tree K v g))
-    ∙ add-siblings K rules n (omega arith) [] (always n) a (keyed K [] v) (some-version n a (h .formed) (h .rooted)) (h .formed) (h .lawful) (t .ascends) (t .lawful)
+    ∙ add-siblings K rules n (omega arith) [] (always n) a (keyed K [] v) (any-always n i) (h .formed) (h .lawful) (t .ascends) (t .lawful)
     ∙ ap (λ s. stamped (suc n) s (mergeS labels contents n a (keyed K [] v))) (always-more n))

@@ -55,7 +55,8 @@ stamped n parent nil = end
 stamped n parent (node l gs k r) =
     wrap parent (maskG n gs) (elem (nameIn l) (holding gs (stamped n (maskG n gs) k))) (stamped n parent r)
 
--- "The archive of n versions is `<T t="1-n">` (`1` when n is 1) around the merged root."
+-- "The archive of n versions is `<T t="1-n">` (`1` when n is 1) around the merged root.", and Q-6's "The root is treated as any other
+-- child: wrapped in its own `T` when its set differs, and left out if no version has it."
 unfoldable pub archiveForest : ℕ → Archive → Forest
 archiveForest n a = stamp (writeTimes (always n)) (stamped n (always n) a) end
 

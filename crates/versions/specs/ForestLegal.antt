@@ -3,7 +3,7 @@ use Prim.Native.Nat.{ℕ, zero, suc, _+_, _-_, _≤_, _<_}
 use native.Mathlib.Omega.{arith}
 use mathlib.Core.Path.{_≡_, refl, sym, _∙_, ap, subst}
 use mathlib.Core.Bool.{Bool, true, false, not, _&&_}
-use mathlib.Core.List.{[]}
+use mathlib.Core.List.{[], _∷_}
 use borrow.Author.Tests.{not-true, leb-true, le-leb}
 use lib.Dec.{leb}
 use lib.ListN.{length, replicate, getD, length-replicate, getD-replicate}
@@ -11,20 +11,23 @@ use Rattle.xml.specs.Bytes.{all, same}
 use Rattle.xml.specs.BytesLaws.{same-is, same-self}
 use Rattle.xml.specs.Forest.{Forest, end, elem, text, stamp, nodes, join, Tidy}
 use Rattle.xml.specs.Read.{isEnd}
-use Rattle.model.specs.Keyed.{any, nil, node, Under, Roof}
+use Rattle.model.specs.Keyed.{any, nil, node, Under, Roof, WFBy}
 use Rattle.model.specs.Masks.{clash}
-use Rattle.model.specs.Stored.{maskG}
-use Rattle.keys.specs.KeyList.{KeyList, rulesKept}
+use Rattle.model.specs.Orders.{labels}
+use Rattle.model.specs.Stored.{maskG, length-maskG, WFS}
+use Rattle.keys.specs.KeyList.{KeyList, rulesKept, contextsInNotation}
+use Rattle.keys.specs.Tree.{contents}
 use Rattle.xml.specs.Truth.{and-left, and-right, and-both, both-true}
 use Rattle.keys.specs.Version.{tooLarge}
 use Rattle.xml.specs.Complete.{join-end}
 use Rattle.versions.specs.BackLaws.{any-always, length-always}
-use Rattle.timestamp.specs.Times.{always, upFrom, belongs, writeTimes, lastNumber}
+use Rattle.timestamp.specs.Times.{Times, always, upFrom, belongs, writeTimes, lastNumber}
 use Rattle.timestamp.specs.TimesLaws.{belongs-times, last-always}
 use Rattle.versions.specs.Archive.{Archive, stamped, archiveForest, pick}
-use Rattle.versions.specs.Lawful.{Rooted, LegalArchive}
-use Rattle.versions.specs.Walk.{isSole, siblingsLegal, allSmall, forestLegal}
-use Rattle.versions.specs.SiblingsLegal.{under-self, Alone, sole-alone, alone-sole, siblings-tree}
+use Rattle.versions.specs.Lawful.{LegalArchive}
+use Rattle.versions.specs.LawfulMerge.{one-root}
+use Rattle.versions.specs.Walk.{siblingsLegal, allSmall, forestLegal}
+use Rattle.versions.specs.SiblingsLegal.{siblings-tree}
 use Rattle.versions.specs.TreeSiblings.{tree-siblings}
 
 -- ---- every one of the n versions from i on
@@ -51,19 +54,18 @@ pick-inside n i k b l =
     ∙ ap (λ m. getD (replicate n true) m false) z ∙ getD-replicate n i true false l in
     rw (e, pick) (join-end (pick (suc i) k))
 
--- one root, in all versions
-alone-rooted : (n : ℕ) (a : Archive) → Alone n (always n) a → Rooted n a
-alone-rooted n nil h = h
-alone-rooted n (node l gs k r) h = h
+-- a root may stand in any of the n versions
+under-always : (n : ℕ) (t : Times) → length t ≡ n → Under (always n) t
+unfolding Under always
+under-always zero [] e = tt
+under-always zero (b ∷ t) e = absurd (omega arith)
+under-always (suc n) [] e = absurd (omega arith)
+under-always (suc n) (b ∷ t) e = (tt, under-always n t (omega arith))
 
-rooted-alone : (n : ℕ) (a : Archive) → Rooted n a → Alone n (always n) a
-rooted-alone n nil h = h
-rooted-alone n (node l gs k r) h = h
-
-rooted-roof : (n : ℕ) (a : Archive) → Rooted n a → Roof (maskG n) (always n) a
-unfolding Roof
-rooted-roof n nil h = absurd h
-rooted-roof n (node l gs k r) h = (subst (λ z. Under (always n) z) (sym (h .1)) (under-self (always n)), subst (λ z. Roof (maskG n) (always n) z) (sym (h .0)) tt)
+roots-roof : (n : ℕ) (a : Archive) → WFS labels contents n a → Roof (maskG n) (always n) a
+unfolding Roof WFBy
+roots-roof n nil w = tt
+roots-roof n (node l gs k r) w = (under-always n (maskG n gs) (length-maskG contents n gs (w .0)), roots-roof n r (w .5))
 
 end-is : (f : Forest) → isEnd f ≡ true → f ≡ end
 unfolding isEnd
@@ -84,38 +86,37 @@ pub record LegalForest (K : KeyList) (f : Forest) : Type 0 where
   pub each-small : (i : ℕ) → i < count → tooLarge (pick (suc i) f) ≡ false
 
 -- what is checked inside the outer `T` of n versions
-module _ (K : KeyList) (n : ℕ) (u : rulesKept K ≡ true) (l : 1 ≤ n) (b : n ≤ 999) where
-  inside-legal : (k : Forest) → Tidy true k → nodes k ≤ 1024 → isSole k ≡ true → siblingsLegal K n [] (always n) k ≡ true → allSmall n k ≡ true → LegalForest K (stamp (writeTimes (always n)) k end)
+module _ (K : KeyList) (n : ℕ) (u : rulesKept K ≡ true) (notation : contextsInNotation K ≡ true) (l : 1 ≤ n) (b : n ≤ 999) where
+  inside-legal : (k : Forest) → Tidy true k → nodes k ≤ 1024 → siblingsLegal K n [] (always n) k ≡ true → allSmall n k ≡ true → LegalForest K (stamp (writeTimes (always n)) k end)
   unfolding archiveForest nodes allSmall
-  inside-legal k d m s h o =
+  inside-legal k d m h o =
       let g = siblings-tree K n [] (always n) k u (length-always n) (any-always n l) d h in
       record {
         count = n;
         tree = g .tree;
         some-there = l;
         not-more = b;
-        legal = record { formed = g .formed; lawful = g .lawful; rooted = alone-rooted n (g .tree) (sole-alone n (always n) (g .tree) (ap isSole (sym (g .written)) ∙ s)) };
+        legal = record { formed = g .formed; lawful = g .lawful; rooted = one-root K u notation n (g .tree) (g .formed) (g .lawful) };
         exactly = ap (λ f. stamp (writeTimes (always n)) f end) (g .written);
         few = omega arith;
         each-small = λ i c. let e : suc i ≡ 1 + i = omega arith in
             ap tooLarge (pick-inside n i k b c ∙ ap (λ j. pick j k) e) ∙ not-true (tooLarge (pick (1 + i) k)) (all-up (λ j. not (tooLarge (pick j k))) 1 n o i c);
       }
 
-pub forest-legal : (K : KeyList) (f : Forest) → rulesKept K ≡ true → Tidy true f → forestLegal K f ≡ true → LegalForest K f
+pub forest-legal : (K : KeyList) (f : Forest) → rulesKept K ≡ true → contextsInNotation K ≡ true → Tidy true f → forestLegal K f ≡ true → LegalForest K f
 unfolding forestLegal
-forest-legal K end u d h = absurd (clash h refl)
-forest-legal K (text b r) u d h = absurd (clash h refl)
-forest-legal K (elem m k r) u d h = absurd (clash h refl)
-forest-legal K (stamp s k r) u d h =
+forest-legal K end u o d h = absurd (clash h refl)
+forest-legal K (text b r) u o d h = absurd (clash h refl)
+forest-legal K (elem m k r) u o d h = absurd (clash h refl)
+forest-legal K (stamp s k r) u o d h =
     let n = lastNumber s in
     let h7 = both-true _ (allSmall n k) h in
     let h6 = both-true _ (siblingsLegal K n [] (always n) k) (h7 .0) in
-    let h5 = both-true _ (isSole k) (h6 .0) in
-    let h4 = both-true _ (leb (nodes k) 1024) (h5 .0) in
+    let h4 = both-true _ (leb (nodes k) 1024) (h6 .0) in
     let h3 = both-true _ (same s (writeTimes (always n))) (h4 .0) in
     let h2 = both-true _ (leb n 999) (h3 .0) in
     let h1 = both-true (isEnd r) (leb 1 n) (h2 .0) in
-    let g = inside-legal K n u (leb-true 1 n (h1 .1)) (leb-true n 999 (h2 .1)) k (d .2) (leb-true (nodes k) 1024 (h4 .1)) (h5 .1) (h6 .1) (h7 .1) in
+    let g = inside-legal K n u o (leb-true 1 n (h1 .1)) (leb-true n 999 (h2 .1)) k (d .2) (leb-true (nodes k) 1024 (h4 .1)) (h6 .1) (h7 .1) in
     subst (λ z. LegalForest K (stamp s k z)) (sym (end-is r (h1 .0))) (subst (λ z. LegalForest K (stamp z k end)) (sym (same-is s (writeTimes (always n)) (h3 .1))) g)
 
 pub legal-forest : (K : KeyList) (n : ℕ) (a : Archive) → rulesKept K ≡ true → 1 ≤ n → n ≤ 999 → LegalArchive K n a → nodes (archiveForest n a) ≤ 1024
@@ -124,9 +125,8 @@ unfolding forestLegal archiveForest nodes allSmall isEnd
 legal-forest K n a u l b h m o =
     let e : lastNumber (writeTimes (always n)) ≡ n = last-always n l b in
     let k = stamped n (always n) a in
-    subst (λ c. (leb 1 c && leb c 999 && same (writeTimes (always n)) (writeTimes (always c)) && leb (nodes k) 1024 && isSole k && siblingsLegal K c [] (always c) k && all (λ i. not (tooLarge (pick i k))) (upFrom 1 c)) ≡ true) (sym e)
-    (and-both _ _ (and-both _ _ (and-both _ _ (and-both _ _ (and-both _ _ (and-both _ _ (le-leb 1 n l) (le-leb n 999 b)) (same-self (writeTimes (always n)))) (le-leb (nodes k) 1024 (omega arith)))
-    (alone-sole n (always n) a (rooted-alone n a (h .rooted))))
-    (tree-siblings K n [] (always n) a u b (length-always n) (h .formed) (h .lawful) (rooted-roof n a (h .rooted))))
+    subst (λ c. (leb 1 c && leb c 999 && same (writeTimes (always n)) (writeTimes (always c)) && leb (nodes k) 1024 && siblingsLegal K c [] (always c) k && all (λ i. not (tooLarge (pick i k))) (upFrom 1 c)) ≡ true) (sym e)
+    (and-both _ _ (and-both _ _ (and-both _ _ (and-both _ _ (and-both _ _ (le-leb 1 n l) (le-leb n 999 b)) (same-self (writeTimes (always n)))) (le-leb (nodes k) 1024 (omega arith)))
+    (tree-siblings K n [] (always n) a u b (length-always n) (h .formed) (h .lawful) (roots-roof n a (h .formed))))
     (up-all (λ i. not (tooLarge (pick i k))) 1 n (λ j c. let d : 1 + j ≡ suc j = omega arith in
     ap (λ i. not (tooLarge (pick i k))) d ∙ ap not (ap tooLarge (sym (pick-inside n j k b c)) ∙ o j c))))

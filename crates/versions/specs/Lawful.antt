@@ -7,15 +7,14 @@ use mathlib.Core.List.{List, [], _∷_}
 use Rattle.xml.specs.Bytes.{Bytes}
 use Rattle.xml.specs.Forest.{Forest, end, text}
 use Rattle.model.specs.Gather.{All}
-use Rattle.model.specs.Keyed.{Tree, nil, node}
+use Rattle.model.specs.Keyed.{Tree}
 use Rattle.model.specs.Orders.{labels}
 use Rattle.model.specs.Groups.{Groups}
 use Rattle.model.specs.Stored.{maskG, WFS}
 use Rattle.keys.specs.KeyList.{Path, KeyList}
 use Rattle.keys.specs.Version.{Label}
 use Rattle.keys.specs.Tree.{Content, inner, front, contents}
-use Rattle.keys.specs.Legal.{Lawful, InnerContent, FrontContent, Sole}
-use Rattle.timestamp.specs.Times.{always}
+use Rattle.keys.specs.Legal.{Lawful, InnerContent, FrontContent, AtMostOne}
 use Rattle.versions.specs.Archive.{Archive}
 
 abbrev pub InnerEntry : Groups Content → Type 0
@@ -31,13 +30,9 @@ KeyEntry n gs v o = o ≡ some ((maskG n gs, front (text v end)) ∷ [])
 abbrev pub LawfulArchive : KeyList → ℕ → Path → Archive → Type 0
 LawfulArchive K n p a = Lawful K InnerEntry FrontEntry (KeyEntry n) p a
 
--- one root, in all n versions
-abbrev pub Rooted : ℕ → Archive → Type 0
-Rooted n nil = ⊥
-Rooted n (node l gs k r) = (r ≡ nil) × (maskG n gs ≡ always n)
-
 -- the tree of an archive of n legal versions, sizes apart
 pub record LegalArchive (K : KeyList) (n : ℕ) (a : Archive) : Type 0 where
   pub formed : WFS labels contents n a
   pub lawful : LawfulArchive K n [] a
-  pub rooted : Rooted n a
+  -- one root at most: no version need have one
+  pub rooted : AtMostOne a

@@ -1,16 +1,16 @@
 -- Merging a legal version into a legal archive gives a legal archive, so the archive of legal versions is legal.
-use Prim.Native.Nat.{ℕ, suc, _+_, _≤_}
+use Prim.Native.Nat.{ℕ, suc, _+_}
 use mathlib.Core.Path.{_≡_, refl, sym, _∙_, ap, ap₂, subst}
 use mathlib.Core.Bool.{Bool, true, false}
 use mathlib.Core.Option.{none, some}
+use mathlib.Core.Ordering.{lt≢eq}
 use mathlib.Core.List.{List, [], _∷_}
 use native.Mathlib.Omega.{arith}
-use native.Mathlib.Numerals.{add-one}
-use lib.ListN.{length, replicate, replicate-append-replicate}
+use lib.ListN.{length, replicate}
 use Rattle.xml.specs.Bytes.{Bytes}
 use Rattle.xml.specs.Forest.{end, text}
 use Rattle.model.specs.Gather.{gather, All}
-use Rattle.model.specs.Keyed.{Tree, nil, node, self, fresh, graft, mergeBy, look, _▷_, WFBy}
+use Rattle.model.specs.Keyed.{Tree, nil, node, self, fresh, mergeBy, look, _▷_, WFBy}
 use Rattle.model.specs.Merged.{Zip, done, old, new, both, zipped, merge-is}
 use Rattle.model.specs.Looked.{pushBy, look-zip}
 use Rattle.model.specs.Orders.{labels}
@@ -22,10 +22,9 @@ use Rattle.keys.specs.KeyList.{Path, KeyList, rulesKept, contextsInNotation, ab
 use Rattle.keys.specs.Version.{_▸_, Label, nameIn}
 use Rattle.keys.specs.Address.{valuesIn}
 use Rattle.keys.specs.Tree.{Content, front, contents, content-self}
-use Rattle.keys.specs.Legal.{Kind, KeyChildren, Lawful, InnerContent, FrontContent, KeyContent, LawfulVersion, Sole, LegalTree}
-use Rattle.timestamp.specs.Times.{always}
+use Rattle.keys.specs.Legal.{Kind, KeyChildren, Lawful, InnerContent, FrontContent, KeyContent, LawfulVersion, AtMostOne, LegalTree}
 use Rattle.versions.specs.Archive.{Archive}
-use Rattle.versions.specs.Lawful.{InnerEntry, FrontEntry, KeyEntry, LawfulArchive, Rooted, LegalArchive}
+use Rattle.versions.specs.Lawful.{InnerEntry, FrontEntry, KeyEntry, LawfulArchive, LegalArchive}
 use Rattle.versions.specs.LawfulLaws.{children-both, children-one, root-same}
 
 -- a version after n others
@@ -129,48 +128,23 @@ module _ (n : ℕ) where
       → LawfulArchive K (suc n) [] (mergeS labels contents n a v)
   lawful-merge K a v w x y = lawful-joined K (zipped labels make (addG contents n) a v) [] w x y
 
--- ---- the root
-always-more : (n : ℕ) → always n ▷ true ≡ always (suc n)
-unfolding always
-always-more n = replicate-append-replicate n 1 true ∙ ap (λ m. replicate m true) (add-one n)
-
-rooted-merge : (n : ℕ) (l : Label) (gs : Groups Content) (k r : Archive) (c : Content) (j s : Tree Label Content) → WFG contents n gs
-    → Rooted n (node l gs k r) → s ≡ nil → Rooted (suc n) (mergeS labels contents n (node l gs k r) (node l c j s))
-unfolding mergeBy graft fresh
-rooted-merge n l gs k r c j s w x e = rw (self labels l, x .0, e)
-    (refl, mask-add contents n gs (some c) w ∙ ap (λ p. p ▷ true) (x .1) ∙ always-more n)
-
-rooted-first : (v : Tree Label Content) → Sole v → Rooted 1 (mergeS labels contents 0 nil v)
-unfolding mergeBy fresh always WFG maskG
-rooted-first nil x = absurd x
-rooted-first (node l c k r) x = (rw x, mask-add contents 0 [] (some c) tt)
-
-rooted-more : (K : KeyList) (n : ℕ) (a : Archive) (v : Tree Label Content) (kept : rulesKept K ≡ true) (notation : contextsInNotation K ≡ true)
-    → LegalArchive K n a → LegalTree K v → Rooted (suc n) (mergeS labels contents n a v)
-unfolding WFBy
-rooted-more K n nil v kept notation x y = absurd (x .rooted)
-rooted-more K n (node l gs k r) nil kept notation x y = absurd (y .sole)
-rooted-more K n (node l gs k r) (node m c j s) kept notation x y =
-    subst (λ z. Rooted (suc n) (mergeS labels contents n (node l gs k r) (node z c j s)))
-    (root-same K kept notation InnerEntry FrontEntry (KeyEntry n) InnerContent FrontContent KeyContent l m gs k r c j s (x .lawful) (y .lawful))
-    (rooted-merge n l gs k r c j s (x .formed .0) (x .rooted) (y .sole))
+-- ---- the root: the key list has one path of one name, so siblings beside the root would have its label
+module _ (K : KeyList) (kept : rulesKept K ≡ true) (notation : contextsInNotation K ≡ true) where
+  pub one-root : (n : ℕ) (a : Archive) → WFS labels contents n a → LawfulArchive K n [] a → AtMostOne a
+  unfolding WFBy Lawful
+  one-root n nil w h = tt
+  one-root n (node l gs k nil) w h = refl
+  one-root n (node l gs k (node m hs j r)) w h =
+      let e : l ≡ m = root-same K kept notation InnerEntry FrontEntry (KeyEntry n) InnerEntry FrontEntry (KeyEntry n) l m gs k (node m hs j r) hs j r h (h .6) in
+      absurd (lt≢eq (sym (w .2) ∙ ap (labels .cmp l) (sym e) ∙ self labels l))
 
 -- ---- the theorems
 pub merge-lawful : (K : KeyList) (n : ℕ) (a : Archive) (v : Tree Label Content) (kept : rulesKept K ≡ true) (notation : contextsInNotation K ≡ true)
     → LegalArchive K n a → LegalTree K v → LegalArchive K (suc n) (mergeS labels contents n a v)
-merge-lawful K n a v kept notation x y = record {
-  formed = merge-formed labels contents n a v (x .formed) (y .ascends);
-  lawful = lawful-merge n K a v (x .formed) (x .lawful) (y .lawful);
-  rooted = rooted-more K n a v kept notation x y;
-}
-
-first-lawful : (K : KeyList) (v : Tree Label Content) → LegalTree K v → LegalArchive K 1 (mergeS labels contents 0 nil v)
-unfolding WFBy Lawful
-first-lawful K v y = record {
-  formed = merge-formed labels contents 0 nil v tt (y .ascends);
-  lawful = lawful-merge 0 K nil v tt tt (y .lawful);
-  rooted = rooted-first v (y .sole);
-}
+merge-lawful K n a v kept notation x y =
+    let w = merge-formed labels contents n a v (x .formed) (y .ascends) in
+    let h = lawful-merge n K a v (x .formed) (x .lawful) (y .lawful) in
+    record { formed = w; lawful = h; rooted = one-root K kept notation (suc n) (mergeS labels contents n a v) w h }
 
 -- n versions and some more
 gather-lawful : (K : KeyList) (n : ℕ) (a : Archive) (ts : List (Tree Label Content)) (kept : rulesKept K ≡ true) (notation : contextsInNotation K ≡ true)
@@ -183,10 +157,9 @@ gather-lawful K n a (t ∷ ts) kept notation x y =
     (gather-lawful K (suc n) (mergeS labels contents n a t) ts kept notation (merge-lawful K n a t kept notation x (y .0)) (y .1))
 
 pub archive-legal-tree : (K : KeyList) (ts : List (Tree Label Content)) (kept : rulesKept K ≡ true) (notation : contextsInNotation K ≡ true)
-    → All (LegalTree K) ts → 1 ≤ length ts → LegalArchive K (length ts) (gather (mergeS labels contents) 0 nil ts)
-unfolding gather
-archive-legal-tree K [] kept notation y b = absurd (omega arith)
-archive-legal-tree K (t ∷ ts) kept notation y b =
-    let e : 1 + length ts ≡ length (t ∷ ts) = omega arith in
-    subst (λ m. LegalArchive K m (gather (mergeS labels contents) 1 (mergeS labels contents 0 nil t) ts)) e
-    (gather-lawful K 1 (mergeS labels contents 0 nil t) ts kept notation (first-lawful K t (y .0)) (y .1))
+    → All (LegalTree K) ts → LegalArchive K (length ts) (gather (mergeS labels contents) 0 nil ts)
+unfolding WFBy Lawful
+archive-legal-tree K ts kept notation y =
+    let e : 0 + length ts ≡ length ts = omega arith in
+    subst (λ m. LegalArchive K m (gather (mergeS labels contents) 0 nil ts)) e
+    (gather-lawful K 0 nil ts kept notation (record { formed = tt; lawful = tt; rooted = tt }) y)

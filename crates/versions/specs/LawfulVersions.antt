@@ -1,31 +1,24 @@
--- The versions of a legal archive are legal, and so is the archive of its first versions.
-use Prim.Native.Nat.{ℕ, zero, suc, _<_, _≤_}
-use mathlib.Core.Path.{_≡_, refl, sym, _∙_, ap}
+-- The versions of a legal archive are legal.
+use Prim.Native.Nat.{ℕ}
+use mathlib.Core.Path.{_≡_, refl}
 use mathlib.Core.Bool.{Bool, true, false}
 use mathlib.Core.Option.{Option, none, some}
 use mathlib.Core.List.{List, [], _∷_}
-use native.Mathlib.Omega.{arith}
-use lib.ListN.{getD, getD-replicate}
 use Rattle.xml.specs.Bytes.{Bytes}
 use Rattle.xml.specs.Forest.{end, text}
-use Rattle.model.specs.Masks.{clash}
-use Rattle.model.specs.Gather.{All, all-snoc}
-use Rattle.model.specs.Keyed.{nil, node, isSome, grown, sift}
+use Rattle.model.specs.Keyed.{nil, node, grown, sift}
 use Rattle.model.specs.Orders.{labels}
 use Rattle.model.specs.Groups.{Groups, atG, WFG}
-use Rattle.model.specs.Ledger.{reads}
 use Rattle.model.specs.Rebuilt.{ascending-sift, WFBy-ascending}
 use Rattle.model.specs.Sifted.{look-sift, mask-at, all-at}
 use Rattle.model.specs.Stored.{versionS, maskG}
-use Rattle.model.specs.Theorems.{versions}
 use Rattle.keys.specs.KeyList.{Path, KeyList, above, keyNamesAt}
 use Rattle.keys.specs.Version.{_▸_, nameIn}
 use Rattle.keys.specs.Address.{valuesIn}
 use Rattle.keys.specs.Tree.{Content, front, contents}
-use Rattle.keys.specs.Legal.{Kind, KeyChildren, Lawful, InnerContent, FrontContent, KeyContent, LawfulVersion, Sole, LegalTree}
-use Rattle.timestamp.specs.Times.{always}
+use Rattle.keys.specs.Legal.{Kind, KeyChildren, Lawful, InnerContent, FrontContent, KeyContent, LawfulVersion, AtMostOne, LegalTree}
 use Rattle.versions.specs.Archive.{Archive}
-use Rattle.versions.specs.Lawful.{InnerEntry, FrontEntry, KeyEntry, LawfulArchive, Rooted, LegalArchive}
+use Rattle.versions.specs.Lawful.{InnerEntry, FrontEntry, KeyEntry, LawfulArchive, LegalArchive}
 use Rattle.versions.specs.LawfulLaws.{children-one}
 
 module _ (n i : ℕ) where
@@ -61,27 +54,18 @@ module _ (n i : ℕ) where
         z,
       )
 
-  sole-at : (a : Archive) → i < n → Rooted n a → Sole (versionS i a)
-  unfolding sift always
-  sole-at nil b x = absurd x
-  sole-at (node l gs k r) b x = go (atG i gs) (sym (mask-at n i gs) ∙ ap (λ p. getD p i false) (x .1) ∙ getD-replicate n i true false b)
+  sole-at : (a : Archive) → AtMostOne a → AtMostOne (versionS i a)
+  unfolding sift
+  sole-at nil x = tt
+  sole-at (node l gs k r) x = rw x (go (atG i gs))
     where
-      go : (o : Option Content) → isSome o ≡ true → Sole (grown l o (versionS i k) (versionS i r))
-      go none e = absurd (clash e refl)
-      go (some c) e = rw (x .0)
+      go : (o : Option Content) → AtMostOne (grown l o (versionS i k) nil)
+      go none = tt
+      go (some c) = refl
 
-pub version-legal-tree : (K : KeyList) (n i : ℕ) (a : Archive) → LegalArchive K n a → i < n → LegalTree K (versionS i a)
-version-legal-tree K n i a x b = record {
+pub version-legal-tree : (K : KeyList) (n i : ℕ) (a : Archive) → LegalArchive K n a → LegalTree K (versionS i a)
+version-legal-tree K n i a x = record {
   ascends = ascending-sift labels (atG i) a (WFBy-ascending labels (WFG contents n) (maskG n) a (x .formed));
   lawful = lawful-at n i K [] a (x .lawful);
-  sole = sole-at n i a b (x .rooted);
+  sole = sole-at n i a (x .rooted);
 }
-
--- all of them, and the first m
-versions-legal-to : (K : KeyList) (n m : ℕ) (a : Archive) → LegalArchive K n a → m ≤ n → All (LegalTree K) (reads versionS m a)
-unfolding reads
-versions-legal-to K n zero a x b = tt
-versions-legal-to K n (suc m) a x b = all-snoc (LegalTree K) (reads versionS m a) (versionS m a) (versions-legal-to K n m a x (omega arith)) (version-legal-tree K n m a x b)
-
-pub versions-legal : (K : KeyList) (n : ℕ) (a : Archive) → LegalArchive K n a → All (LegalTree K) (versions labels contents n a)
-versions-legal K n a x = versions-legal-to K n n a x (omega arith)

@@ -92,7 +92,7 @@ module _ (keys : Bytes) (K : KeyList) (k : keyList keys ≡ ok K) where
     pub legal-of : LegalArchive K (length vs) (archive K vs)
     unfolding archive
     legal-of = subst (λ n. LegalArchive K n (gather (mergeS labels contents) 0 nil (map (keyed K []) vs))) (length-map vs (keyed K []))
-        (archive-legal-tree K (map (keyed K []) vs) rules (keyList-notation keys K k) (all-trees vs legal) (rw length-map there))
+        (archive-legal-tree K (map (keyed K []) vs) rules (keyList-notation keys K k) (all-trees vs legal))
 
     -- version i of it is the version received
     pub picked-of : (i : ℕ) → i < length vs → pick (suc i) (archiveOf K vs) ≡ getD vs i end

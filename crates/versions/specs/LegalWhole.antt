@@ -90,7 +90,7 @@ outerOf (stamp s k r) = elim (isEnd r) [ true ↦ outerLast s | false ↦ 0 ]
 
 -- what is checked inside the outer `T` of n versions
 unfoldable pub insideLegal : KeyList → ℕ → Forest → Bool
-insideLegal K n k = leb (nodes k) 1024 && isSole k && siblingsLegal K n [] (always n) k && allSmall n k
+insideLegal K n k = leb (nodes k) 1024 && siblingsLegal K n [] (always n) k && allSmall n k
 
 -- the last version of a legal archive, or 0 for a forest that is none
 unfoldable pub wholeLast : KeyList → Forest → ℕ
@@ -116,15 +116,14 @@ whole-tells K s k r h =
     let n = lastNumber s in
     let h7 = both-true _ (allSmall n k) h in
     let h6 = both-true _ (siblingsLegal K n [] (always n) k) (h7 .0) in
-    let h5 = both-true _ (isSole k) (h6 .0) in
-    let h4 = both-true _ (leb (nodes k) 1024) (h5 .0) in
+    let h4 = both-true _ (leb (nodes k) 1024) (h6 .0) in
     let h3 = both-true _ (same s (writeTimes (always n))) (h4 .0) in
     let h2 = both-true _ (leb n 999) (h3 .0) in
     let h1 = both-true (isEnd r) (leb 1 n) (h2 .0) in
     record {
       alone = h1 .0;
       outer = and-both _ _ (and-both _ _ (h1 .1) (h2 .1)) (h3 .1);
-      inside = and-both _ _ (and-both _ _ (and-both _ _ (h4 .1) (h5 .1)) (h6 .1)) (h7 .1);
+      inside = and-both _ _ (and-both _ _ (h4 .1) (h6 .1)) (h7 .1);
     }
 
 whole-told : (K : KeyList) (s : Bytes) (k r : Forest) → Whole K s k r → forestLegal K (stamp s k r) ≡ true
@@ -135,8 +134,7 @@ whole-told K s k r w =
     let o1 = both-true (leb 1 n) (leb n 999) (o2 .0) in
     let i3 = both-true _ (allSmall n k) (w .inside) in
     let i2 = both-true _ (siblingsLegal K n [] (always n) k) (i3 .0) in
-    let i1 = both-true (leb (nodes k) 1024) (isSole k) (i2 .0) in
-    and-both _ _ (and-both _ _ (and-both _ _ (and-both _ _ (and-both _ _ (and-both _ _ (and-both _ _ (w .alone) (o1 .0)) (o1 .1)) (o2 .1)) (i1 .0)) (i1 .1)) (i2 .1)) (i3 .1)
+    and-both _ _ (and-both _ _ (and-both _ _ (and-both _ _ (and-both _ _ (and-both _ _ (w .alone) (o1 .0)) (o1 .1)) (o2 .1)) (i2 .0)) (i2 .1)) (i3 .1)
 
 -- a law for each test of the inside
 module _ (K : KeyList) (n : ℕ) (k : Forest) where
@@ -144,19 +142,14 @@ module _ (K : KeyList) (n : ℕ) (k : Forest) where
   unfolding insideLegal
   inside-many l = rw (lt-leb (nodes k) 1024 l) refl
 
-  pub inside-crowd : isSole k ≡ false → insideLegal K n k ≡ false
-  unfolding insideLegal
-  inside-crowd e = not-so (leb (nodes k) 1024 && isSole k && siblingsLegal K n [] (always n) k && allSmall n k) (λ h.
-      clash (sym (and-right (leb (nodes k) 1024) (isSole k) (and-left _ (siblingsLegal K n [] (always n) k) (and-left _ (allSmall n k) h))) ∙ e))
-
   pub inside-unlawful : siblingsLegal K n [] (always n) k ≡ false → insideLegal K n k ≡ false
   unfolding insideLegal
-  inside-unlawful e = not-so (leb (nodes k) 1024 && isSole k && siblingsLegal K n [] (always n) k && allSmall n k) (λ h.
-      clash (sym (and-right (leb (nodes k) 1024 && isSole k) (siblingsLegal K n [] (always n) k) (and-left _ (allSmall n k) h)) ∙ e))
+  inside-unlawful e = not-so (leb (nodes k) 1024 && siblingsLegal K n [] (always n) k && allSmall n k) (λ h.
+      clash (sym (and-right (leb (nodes k) 1024) (siblingsLegal K n [] (always n) k) (and-left _ (allSmall n k) h)) ∙ e))
 
-  pub inside-rest : nodes k ≤ 1024 → isSole k ≡ true → siblingsLegal K n [] (always n) k ≡ true → insideLegal K n k ≡ allSmall n k
+  pub inside-rest : nodes k ≤ 1024 → siblingsLegal K n [] (always n) k ≡ true → insideLegal K n k ≡ allSmall n k
   unfolding insideLegal
-  inside-rest l e d = rw (le-leb (nodes k) 1024 l, e, d) refl
+  inside-rest l d = rw (le-leb (nodes k) 1024 l, d) refl
 
 -- what the walk over the inside asks
 pub inside-walk : {keyText : Bytes} {table : List ℕ} {paths : ℕ} {src cells : List ℕ} {lo hi : ℕ} → Tabled keyText table paths → Valid src cells lo hi
@@ -187,7 +180,7 @@ module _ (K : KeyList) where
   legal-few (stamp s k r) h =
       let w = whole-tells K s k r h in
       let n = lastNumber s in
-      let i = and-left (leb (nodes k) 1024) (isSole k) (and-left _ (siblingsLegal K n [] (always n) k) (and-left _ (allSmall n k) (w .inside))) in
+      let i = and-left (leb (nodes k) 1024) (siblingsLegal K n [] (always n) k) (and-left _ (allSmall n k) (w .inside)) in
       let z : nodes r ≡ 0 = ap nodes (sole-end r (w .alone)) in
       omega (arith, leb-true (nodes k) 1024 i, z)
 
@@ -200,7 +193,7 @@ module _ (K : KeyList) where
   legal-named (stamp s k r) h =
       let w = whole-tells K s k r h in
       let n = lastNumber s in
-      let i = and-right (leb (nodes k) 1024 && isSole k) (siblingsLegal K n [] (always n) k) (and-left _ (allSmall n k) (w .inside)) in
+      let i = and-right (leb (nodes k) 1024) (siblingsLegal K n [] (always n) k) (and-left _ (allSmall n k) (w .inside)) in
       let z : misnamed r ≡ 0 = ap misnamed (sole-end r (w .alone)) in
       omega (arith, named-siblings K n [] (always n) k i, z)
 

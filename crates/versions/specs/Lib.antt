@@ -54,6 +54,7 @@ pub mod VersionText
 pub mod Timely
 pub mod BackText
 pub mod Standing
+pub mod Vacant
 pub mod MarkLaws
 pub mod LegalKeys
 pub mod LegalTimes

@@ -97,7 +97,7 @@ module _ (K : KeyList) (n : ℕ) (q : Path) (t : Times) (f : Forest) (u : rulesK
   held true b d ih e = held-above b (and-left (all (λ key. isOneValue (called key f)) (keyNamesAt K q)) _ e) (ih (and-right (all (λ key. isOneValue (called key f)) (keyNamesAt K q)) _ e))
   held false b d ih e = held-front b d e
 
-pub under-self : (t : Times) → Under t t
+under-self : (t : Times) → Under t t
 unfolding Under
 under-self [] = tt
 under-self (true ∷ t) = (tt, under-self t)
@@ -139,11 +139,11 @@ end-nil n t (node l gs k r) e = absurd (go (sameTimes t (maskG n gs)) e)
     go false h = clash h refl
 
 -- a tree of one element, which stands in the versions t
-abbrev pub Alone : ℕ → Times → Archive → Type 0
+abbrev Alone : ℕ → Times → Archive → Type 0
 Alone n t nil = ⊥
 Alone n t (node l gs k r) = (r ≡ nil) × (maskG n gs ≡ t)
 
-pub sole-alone : (n : ℕ) (t : Times) (a : Archive) → isSole (stamped n t a) ≡ true → Alone n t a
+sole-alone : (n : ℕ) (t : Times) (a : Archive) → isSole (stamped n t a) ≡ true → Alone n t a
 unfolding stamped wrap isSole
 sole-alone n t nil e = clash e refl
 sole-alone n t (node l gs k r) e = go (sameTimes t (maskG n gs)) refl e
@@ -154,13 +154,6 @@ sole-alone n t (node l gs k r) e = go (sameTimes t (maskG n gs)) refl e
     ]) ≡ true → (r ≡ nil) × (maskG n gs ≡ t)
     go true s h = (end-nil n t r h, sym (times-is t (maskG n gs) s))
     go false s h = absurd (clash h refl)
-
-pub alone-sole : (n : ℕ) (t : Times) (a : Archive) → Alone n t a → isSole (stamped n t a) ≡ true
-unfolding stamped isSole isEnd
-alone-sole n t nil h = absurd h
-alone-sole n t (node l gs k r) h =
-    ap₂ (λ (s : Times) (x : Archive). isSole (wrap s (maskG n gs) (elem (nameIn l) (holding gs (stamped n (maskG n gs) k))) (stamped n t x))) (sym (h .1)) (h .0)
-    ∙ ap isSole (wrap-bare (maskG n gs) (elem (nameIn l) (holding gs (stamped n (maskG n gs) k))) end)
 
 -- an element in its `T`, and the siblings after it
 stamp-treed : (K : KeyList) (n : ℕ) (p : Path) (t s : Times) (k r : Forest) → rulesKept K ≡ true → (t ≡ s → ⊥) → Under t s → isSole k ≡ true → precedes (firstLabel K p k) (firstLabel K p r) ≡ true

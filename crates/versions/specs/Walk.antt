@@ -139,7 +139,7 @@ forestLegal K (text b r) = false
 forestLegal K (elem m k r) = false
 forestLegal K (stamp s k r) =
     isEnd r && leb 1 (lastNumber s) && leb (lastNumber s) 999 && same s (writeTimes (always (lastNumber s)))
-    && leb (nodes k) 1024 && isSole k && siblingsLegal K (lastNumber s) [] (always (lastNumber s)) k && allSmall (lastNumber s) k
+    && leb (nodes k) 1024 && siblingsLegal K (lastNumber s) [] (always (lastNumber s)) k && allSmall (lastNumber s) k
 
 -- the forest of a legal archive's text, which is spelled just as it is written
 unfoldable pub archiveRead : KeyList → Bytes → Result Forest

@@ -123,7 +123,7 @@ module _ (keys : Bytes) (K : KeyList) (k : keyList keys ≡ ok K) where
         ap (gather (mergeS labels contents) 0 nil) (map-append (keyed K []) vs (v ∷ []))
         ∙ gather-more (mergeS labels contents) nil (map (keyed K []) vs) (keyed K [] v)
         ∙ ap (λ j. mergeS labels contents j (archive K vs) (keyed K [] v)) (length-map vs (keyed K [])) in
-        add-archive K (length vs) (archive K vs) v (rules-kept keys K k) (legal-of keys K k vs (a .legal) (a .there) c) (omega arith) h
+        add-archive K (length vs) (archive K vs) v (rules-kept keys K k) (legal-of keys K k vs (a .legal) (a .there) c) (a .there) (omega arith) h
         ∙ sym (ap₂ archiveForest n m)
 
     pub back-walk : (i : ℕ) → 1 ≤ i → i ≤ length vs → backForest i (archiveOf K vs) ≡ archiveOf K (take i vs)

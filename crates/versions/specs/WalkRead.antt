@@ -20,7 +20,7 @@ use Rattle.model.specs.Ledger.{reads}
 use Rattle.model.specs.Stored.{mergeS, versionS}
 use Rattle.model.specs.Theorems.{versions, formed-archive, length-versions}
 use Rattle.keys.specs.KeyList.{KeyList, keyList, rulesKept}
-use Rattle.keys.specs.KeyListLaws.{rules-kept}
+use Rattle.keys.specs.KeyListLaws.{rules-kept, keyList-notation}
 use Rattle.keys.specs.Result.{Refusal, Result, refused, ok, _>>=_, _>>_, refuse, refusedAs, r10}
 use Rattle.keys.specs.ResultLaws.{refused-ok, ok-inj, bind-inv, passed, refusedAs-inv}
 use Rattle.keys.specs.Version.{Label, parsed, tooLarge}
@@ -55,7 +55,7 @@ module _ (keys : Bytes) (K : KeyList) (k : keyList keys ≡ ok K) where
     each-legal zero b = (tt, refl)
     each-legal (suc m) b =
         let h = each-legal m (omega arith) in
-        let t : LegalTree K (versionS m a) = version-legal-tree K n m a legal (omega arith) in
+        let t : LegalTree K (versionS m a) = version-legal-tree K n m a legal in
         let v : LegalVersion K (forestOf (versionS m a)) = tree-legal K (versionS m a) (rules-kept keys K k) t (small m (omega arith)) in
         let e : keyed K [] (forestOf (versionS m a)) ≡ versionS m a = tree-keyed K (versionS m a) (rules-kept keys K k) t in (
           rw map-append (all-snoc (LegalVersion K) (map forestOf (reads versionS m a)) (forestOf (versionS m a)) (h .0) v),
@@ -86,7 +86,7 @@ module _ (keys : Bytes) (K : KeyList) (k : keyList keys ≡ ok K) where
           let x = passed r10 (not (same s (write g))) _ f h in
           let y = passed r10 (not (forestLegal K g)) _ f (x .1) in
           let q : s ≡ write g = same-is s (write g) (not-false (same s (write g)) (x .0)) in
-          let l = forest-legal K g (rules-kept keys K k) (read-tidy true s g r .0) (not-false (forestLegal K g) (y .0)) in
+          let l = forest-legal K g (rules-kept keys K k) (keyList-notation keys K k) (read-tidy true s g r .0) (not-false (forestLegal K g) (y .0)) in
           let small : (i : ℕ) → i < l .count → tooLarge (forestOf (versionS i (l .tree))) ≡ false = λ i b.
           ap tooLarge (sym (pick-archive K (l .count) i (l .tree) (l .legal) (l .not-more) b) ∙ ap (pick (suc i)) (sym (l .exactly))) ∙ l .each-small i b in
           let vs : List Forest = forests (l .count) (l .tree) (l .legal) small (l .count) in

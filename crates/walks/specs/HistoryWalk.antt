@@ -25,7 +25,7 @@ use Rattle.keys.specs.AddressParts.{Steps}
 use Rattle.keys.specs.SameStep.{path-to, step-below}
 use Rattle.keys.specs.declared.address.Parsed.{Parsed}
 use Rattle.timestamp.specs.Times.{Times, always, writeTimes, lastNumber}
-use Rattle.versions.specs.Walk.{isSole, siblingsLegal, allSmall, forestLegal, orEmpty, historyIn, historyForest}
+use Rattle.versions.specs.Walk.{siblingsLegal, allSmall, forestLegal, orEmpty, historyIn, historyForest}
 use Rattle.versions.specs.HistorySteps.{inside, or-none, sole-end}
 use Rattle.versions.specs.HistoryTape.{nearAt, StepAt}
 use Rattle.walks.specs.HistoryParts.{StepSought, StepFound, entered, HistoryAsked, OfHistory, AroundIs}
@@ -64,8 +64,7 @@ module _ {src cells : List ℕ} {K : KeyList} {count : ℕ} where
       let n = lastNumber s in
       let h7 = both-true _ (allSmall n k) h in
       let h6 = both-true _ (siblingsLegal K n [] (always n) k) (h7 .0) in
-      let h5 = both-true _ (isSole k) (h6 .0) in
-      let h4 = both-true _ (leb (nodes k) 1024) (h5 .0) in
+      let h4 = both-true _ (leb (nodes k) 1024) (h6 .0) in
       let h3 = both-true _ (same s (writeTimes (always n))) (h4 .0) in
       let h2 = both-true _ (leb n 999) (h3 .0) in
       let e : r ≡ end = sole-end r (and-left (isEnd r) (leb 1 n) (h2 .0)) in

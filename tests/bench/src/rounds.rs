@@ -10,7 +10,7 @@ use compare::random::Random;
 use compare::station::Call;
 use reference::archive::archive;
 use reference::keys::KeyList;
-use reference::version::{written, Element, Node};
+use reference::version::{written, Element, Node, Version};
 
 fn random(seed: u64, number: u64) -> Random {
     Random::new(seed.wrapping_mul(0x1_0000_0003).wrapping_add(number))
@@ -68,7 +68,7 @@ fn one_content_twice(r: &mut Random, workload: &Workload) -> Vec<u8> {
 
 const KEYS: &[u8] = b"(/, (s, {}))\n(/s, (f, {}))\n(/s, (g, {}))\n(/s, (k, {p}))\n(/s/k, (v, {}))\n";
 
-/// An archive with a version of about 512 nodes or 16,384 bytes.
+/// An archive with a version of about 512 nodes or 16,384 bytes; in half of the rounds some versions are vacant.
 pub fn large_versions(c: &mut Comparison, seed: u64, number: u64) {
     c.place = format!("seed {seed}, large versions {number}");
     let r = &mut random(seed, number);
@@ -81,14 +81,15 @@ pub fn large_versions(c: &mut Comparison, seed: u64, number: u64) {
     let chosen = r.choose(&choices);
     let Some(&content) = chosen[..2].iter().find(|&&content| content < 6) else { return };
     let times = chosen.iter().filter(|&&other| other == content).count();
-    let size = written(&keys, &version(&contents, &chosen));
+    let size = written(&keys, &Some(version(&contents, &chosen)));
     let (have, limit) = if by_nodes { (size.nodes, 512) } else { (size.bytes.len(), 16_384) };
     let wanted = limit + r.below(4 * times) - 2 * times;
     if wanted < have || times == 0 {
         return;
     }
     lengthen(&mut contents[content], (wanted - have) / times, by_nodes);
-    let versions: Vec<Element> = choices.iter().map(|choice| version(&contents, choice)).collect();
+    let vacant = r.choose(&[0, 30]);
+    let versions: Vec<Version> = choices.iter().map(|choice| (!r.chance(vacant)).then(|| version(&contents, choice))).collect();
     let text = archive(&keys, &versions).bytes;
     for i in [1, n] {
         c.ask(r, KEYS, Call::Retrieve { archive: &text, i });
@@ -99,6 +100,7 @@ pub fn large_versions(c: &mut Comparison, seed: u64, number: u64) {
     c.ask(r, KEYS, Call::Found { version: &last });
     c.ask(r, KEYS, Call::Add { archive: &text, version: &last });
     c.ask(r, KEYS, Call::Add { archive: &text, version: b"<s></s>" });
+    c.ask(r, KEYS, Call::Add { archive: &text, version: b"" });
 }
 
 fn element(name: &str, content: Vec<Node>) -> Node {

@@ -31,7 +31,7 @@ fn some_rounds() {
     no_difference(&c);
 }
 
-/// The archives of document 01's record, P1 to P7.
+/// The archives of document 01's record, P1 to P7, and P8 as document 02 has it (Q-6).
 #[test]
 fn the_record() {
     let record = workloads::record();
@@ -49,6 +49,8 @@ fn the_record() {
     assert_eq!(plain::back(keys, archive, &mut unused, 0, &mut out), (11, 0));
     assert_eq!(unused, UNUSED);
     assert_eq!(plain::retrieve(keys, archive, 4, &mut out), (11, 0));
+    assert_eq!(plain::found(keys, b"", &mut out), (0, 13));
+    assert_eq!(&out[..13], br#"<T t="1"></T>"#);
 }
 
 /// The workloads are what they are said to be, and legal for the reference too.

@@ -150,7 +150,48 @@ fn any_set(r: &mut Random, n: usize, above: &[u8]) -> Vec<usize> {
     }
 }
 
+/// The kind of the outermost `T` of so many versions.
+fn all_of(n: usize) -> Kind {
+    t(&(1..=n).collect::<Vec<usize>>(), vec![]).kind
+}
+
+/// The root and the `T`s around it, which are the root's own, if it has one, and the outermost.
+fn damage_root(r: &mut Random, top: &mut Part, n: usize) {
+    let Some(outermost) = top.parts.first_mut() else { return };
+    let all = outermost.kind.clone();
+    // The set of the root's own T, and what is in it.
+    let own = outermost.parts.first().filter(|part| matches!(part.kind, Kind::T(_))).map(|part| part.kind.clone());
+    let inside = if own.is_some() { outermost.parts[0].parts.clone() } else { outermost.parts.clone() };
+    let Kind::T(set) = own.clone().unwrap_or(all.clone()) else { return };
+    let numbers = any_set(r, n, &set);
+    match r.below(12) {
+        // Bare; in a T with the outer set, with none, with any, in two.
+        0 => outermost.parts = inside,
+        1 => outermost.parts = vec![part(all, inside)],
+        2 => outermost.parts = vec![t(&[], inside)],
+        3 => outermost.parts = vec![t(&numbers, inside)],
+        4 => outermost.parts = vec![t(&numbers, outermost.parts.clone())],
+        // Twice: as it stands, bare beside it, in a T beside it.
+        5 => outermost.parts.extend(outermost.parts.clone()),
+        6 => outermost.parts.extend(inside),
+        7 => outermost.parts.push(t(&numbers, inside)),
+        // The outer set: the root's own if it has one, shortened, grown.
+        8 => outermost.kind = own.unwrap_or_else(|| t(&numbers, vec![]).kind),
+        9 => outermost.kind = all_of(r.choose(&[n.max(2) - 1, n + 1])),
+        // No root, with its T or without; white space.
+        10 => outermost.parts = if r.chance(50) { vec![] } else { vec![t(&numbers, vec![])] },
+        _ => {
+            let holder = if own.is_some() && r.chance(50) { &mut outermost.parts[0] } else { outermost };
+            let at = r.below(holder.parts.len() + 1);
+            holder.parts.insert(at, text(r.choose(&[&b" "[..], b"\n", b"\r\n", b"x"])));
+        }
+    }
+}
+
 fn damage(r: &mut Random, top: &mut Part, n: usize) {
+    if r.chance(12) {
+        return damage_root(r, top, n);
+    }
     let is_t = |part: &Part| matches!(part.kind, Kind::T(_));
     let is_element = |part: &Part| matches!(part.kind, Kind::Element(_));
     let is_text = |part: &Part| matches!(part.kind, Kind::Text(_));
@@ -338,7 +379,7 @@ fn damage(r: &mut Random, top: &mut Part, n: usize) {
         // The outermost set.
         29 => {
             let last = r.choose(&[n + 1, n.max(2) - 1, 999, 1_000, n + 64]);
-            top.parts[0].kind = Kind::T(if last == 1 { b"1".to_vec() } else { format!("1-{last}").into_bytes() });
+            top.parts[0].kind = all_of(last);
         }
         // A part moved elsewhere.
         _ => {

@@ -1,10 +1,13 @@
 //! The comparison finds planted faults: those of document 01's "Held to by each call", 3, those of
-//! an output, length or number that is not as promised, and those of marks (document 02, Q-2).
+//! an output, length or number that is not as promised, and those of marks and of vacant versions
+//! (document 02, Q-2 and Q-6).
 
 use crate::comparison::Comparison;
 use crate::round;
 use crate::station::{Call, Reference, Returned, Station};
 use reference::marks::{self, entries, Mark, TABLE_BYTES, UNUSED};
+use reference::xml::is_white_space;
+use reference::WORK_CELLS;
 
 #[derive(Clone, Copy, Debug)]
 enum Fault {
@@ -41,6 +44,14 @@ enum Fault {
     TakesNamesTwice,
     TakesBytesPastNames,
     ElevenBeforeSeventeen,
+    VacantIsFive,
+    OnlyEmptyIsVacant,
+    VacantIsAbsent,
+    RootBareOverGap,
+    OuterIsTheRoots,
+    EmptySetWritten,
+    TakesOuterSetRepeated,
+    TakesEmptySet,
 }
 
 struct Faulty(Fault);
@@ -83,6 +94,28 @@ fn outermost(archive: &[u8]) -> &[u8] {
     &archive[6..6 + end]
 }
 
+/// The set of the `T` that a text is, and what is in it.
+fn opened(text: &[u8]) -> Option<(&[u8], &[u8])> {
+    let text = text.strip_prefix(b"<T t=\"")?.strip_suffix(b"</T>")?;
+    let end = text.iter().position(|&byte| byte == b'"')?;
+    Some((&text[..end], text[end + 1..].strip_prefix(b">")?))
+}
+
+fn in_t(set: &[u8], inside: &[u8]) -> Vec<u8> {
+    [b"<T t=\"", set, b"\">", inside, b"</T>"].concat()
+}
+
+/// An archive's outer set, that of the root's own `T`, and the root; none if it has no such `T`.
+fn root_in_t(archive: &[u8]) -> Option<(&[u8], &[u8], &[u8])> {
+    let (all, inside) = opened(archive)?;
+    let (own, root) = opened(inside)?;
+    Some((all, own, root))
+}
+
+fn is_legal(keys: &[u8], archive: &[u8]) -> bool {
+    reference::retrieve(keys, archive, 1, usize::MAX, WORK_CELLS).number == 0
+}
+
 impl Station for Faulty {
     fn name(&self) -> &'static str {
         "a faulty one"
@@ -92,6 +125,10 @@ impl Station for Faulty {
         let before = out.to_vec();
         let right = Reference.call(keys, call, table, out);
         let Returned { number, length, .. } = right;
+        if let Some(wrong) = self.wrong_result(keys, call, number, &out[..length]) {
+            out.copy_from_slice(&before);
+            return put(&wrong, out);
+        }
         match (self.0, call) {
             (Fault::AddOnlyRaisesN, Call::Add { archive, .. }) if number == 0 => {
                 let raised = outermost(&out[..length]).to_vec();
@@ -138,12 +175,45 @@ impl Station for Faulty {
             (Fault::LengthWhenRefusing, _) if number == 14 => Returned { length: 1, ..right },
             (Fault::TenForEleven, _) if number == 11 => refusal(10),
             (Fault::ChecksNoArchive, Call::Retrieve { .. }) if number == 10 => put(b"", out),
+            (Fault::VacantIsFive, Call::Found { version } | Call::Add { version, .. }) if number == 0 && is_white_space(version) => {
+                out.copy_from_slice(&before);
+                refusal(5)
+            }
+            (Fault::OnlyEmptyIsVacant, Call::Found { version } | Call::Add { version, .. })
+                if number == 0 && is_white_space(version) && !version.is_empty() =>
+            {
+                out.copy_from_slice(&before);
+                refusal(5)
+            }
             _ => self.marked(keys, call, table, out, right),
         }
     }
 }
 
 impl Faulty {
+    /// The faults of vacant versions: what is given in place of the right number and result.
+    fn wrong_result(&self, keys: &[u8], call: Call, number: u32, result: &[u8]) -> Option<Vec<u8>> {
+        match (self.0, call) {
+            (Fault::VacantIsAbsent, Call::Add { archive, version }) if number == 0 && is_white_space(version) => Some(archive.to_vec()),
+            (Fault::RootBareOverGap, _) => root_in_t(result).map(|(all, _, root)| in_t(all, root)),
+            (Fault::OuterIsTheRoots, _) => root_in_t(result).map(|(_, own, root)| in_t(own, root)),
+            (Fault::EmptySetWritten, Call::Back { archive, .. } | Call::BackToMark { archive, .. }) if number == 0 => {
+                let (all, inside) = opened(result)?;
+                let (_, _, root) = root_in_t(archive)?;
+                inside.is_empty().then(|| in_t(all, &in_t(b"", root)))
+            }
+            (Fault::TakesOuterSetRepeated, Call::Retrieve { archive, .. } | Call::History { archive, .. } | Call::Back { archive, .. }) if number == 10 => {
+                let (all, own, root) = root_in_t(archive)?;
+                (all == own && is_legal(keys, &in_t(all, root))).then(Vec::new)
+            }
+            (Fault::TakesEmptySet, Call::Retrieve { archive, .. } | Call::History { archive, .. } | Call::Back { archive, .. }) if number == 10 => {
+                let (all, own, _) = root_in_t(archive)?;
+                (own.is_empty() && is_legal(keys, &in_t(all, b""))).then(Vec::new)
+            }
+            _ => None,
+        }
+    }
+
     /// The faults of marks; `right` is what the call should return, and gave to the table and the output.
     fn marked(&self, keys: &[u8], call: Call, table: &mut [u8], out: &mut [u8], right: Returned) -> Returned {
         let number = right.number;
@@ -248,7 +318,8 @@ fn each_fault_is_found() {
         WritesBeyondTheResult, WritesWhenRefusing, LengthWhenRefusing, TenForEleven, ChecksNoArchive, BackKeepsLater, BackDropsItsOwn,
         BackLosesOrder, SetsOverHeld, SetsAtTheFront, FindsAnother, FindsWhenRefusing, RefusalTouchesTable, RefusedSetWrites,
         FullBeforeHeld, LongNameIsTwo, NamedBackToN, NamedBackToFirst, TakesShortTable, TakesLaterMarks, ChecksNoTable, TakesNamesTwice,
-        TakesBytesPastNames, ElevenBeforeSeventeen,
+        TakesBytesPastNames, ElevenBeforeSeventeen, VacantIsFive, OnlyEmptyIsVacant, VacantIsAbsent, RootBareOverGap, OuterIsTheRoots,
+        EmptySetWritten, TakesOuterSetRepeated, TakesEmptySet,
     ];
     for fault in faults {
         assert!(is_found(fault), "{fault:?}");

@@ -21,6 +21,7 @@ pub fn run(c: &mut Comparison) {
     addresses(c);
     marks(c);
     tables(c);
+    vacancies(c);
 }
 
 fn f(content: &str) -> String {
@@ -240,6 +241,23 @@ fn numbers_of_versions(c: &mut Comparison) {
         3 => format!("<s><k><p>{}</p></k><f/></s>", number % 3),
         _ => format!("<s><k><p>1</p><v>{}</v></k></s>", number % 2),
     };
+    up_to_1000(c, &version);
+    // The same, two of each three versions vacant, the first and version 999 too; all of them vacant.
+    up_to_1000(c, &|number| if number % 3 < 2 { " ".into() } else { version(number) });
+    up_to_1000(c, &|_| String::new());
+    for set in ["1-998", "1-999", "1-1000", "1-9999", "1-4294967297", "1-18446744073709551617", "999", "0-1", "1", "1-2", "2"] {
+        for root in ["<s></s>", ""] {
+            let archive = format!("<T t=\"{set}\">{root}</T>");
+            read_all(c, KEYS, archive.as_bytes(), &[0, 1, 2, 998, 999, 1_000], &["/s", "/s/f"]);
+            add(c, KEYS, archive.as_bytes(), "<s/>");
+            add(c, KEYS, archive.as_bytes(), &f(""));
+            add(c, KEYS, archive.as_bytes(), "");
+        }
+    }
+}
+
+/// Versions 1 to 1,000 of a list.
+fn up_to_1000(c: &mut Comparison, version: &dyn Fn(usize) -> String) {
     let addresses = ["/s", "/s/f", "/s/k[p=\"1\"]/v", "/s/k[p=\"0\"]"];
     let mut shelf = Shelf::found(KEYS.as_bytes(), version(1).as_bytes()).expect("a legal version");
     for number in 2..=1_000 {
@@ -261,12 +279,6 @@ fn numbers_of_versions(c: &mut Comparison) {
         } else {
             shelf.add(text.as_bytes()).expect("a legal version");
         }
-    }
-    for set in ["1-998", "1-999", "1-1000", "1-9999", "1-4294967297", "1-18446744073709551617", "999", "0-1", "1", "1-2", "2"] {
-        let archive = format!("<T t=\"{set}\"><s></s></T>");
-        read_all(c, KEYS, archive.as_bytes(), &[0, 1, 2, 998, 999, 1_000], &["/s", "/s/f"]);
-        add(c, KEYS, archive.as_bytes(), "<s/>");
-        add(c, KEYS, archive.as_bytes(), &f(""));
     }
 }
 
@@ -525,5 +537,112 @@ fn tables(c: &mut Comparison) {
         let marks: Vec<Mark> = (0..32).map(|number| mark(format!("m{number}").as_bytes(), versions[number % 3])).collect();
         mark_all(c, archive, &table(&marks), &[b"m0", b"m1", b"m2", b"m31"], &[1, 2]);
         mark_all(c, archive, &table(&marks[..3]), &[b"m0", b"m1", b"m2", b"m3"], &[1, 2]);
+    }
+}
+
+/// Vacant versions: their texts, lists with them, the archives of these and others near them.
+fn vacancies(c: &mut Comparison) {
+    texts_of_white_space(c);
+    lists_with_vacancies(c);
+    archives_with_vacancies(c);
+    struck_off_at_the_limit(c);
+}
+
+/// White space alone, and with one other byte, of few bytes and about as many as a version may have.
+fn texts_of_white_space(c: &mut Comparison) {
+    let ask = |c: &mut Comparison, version: &[u8]| {
+        c.ask_each_output(KEYS.as_bytes(), Call::Found { version });
+        for archive in [&b"<T t=\"1\"></T>"[..], b"<T t=\"1\"><s></s></T>", b"bad"] {
+            c.ask_each_output(KEYS.as_bytes(), Call::Add { archive, version });
+        }
+    };
+    for byte in 0..=255u8 {
+        for text in [&[byte][..], &[b' ', byte], &[byte, b'\n'], &[b'\r', byte, b'\t'], &[byte; 16]] {
+            ask(c, text);
+        }
+    }
+    for size in [16_383, 16_384, 16_385] {
+        for byte in b" \t\r\nx" {
+            let text = vec![*byte; size];
+            ask(c, &text);
+            c.ask_each_output(b"bad", Call::Found { version: &text });
+            for (at, other) in [(0, b'x'), (size / 2, b'\0'), (size - 1, b'<'), (size - 1, b'\x0b')] {
+                let mut text = text.clone();
+                text[at] = other;
+                ask(c, &text);
+            }
+        }
+    }
+}
+
+/// Every list of one to four versions, each vacant, empty or with something in it.
+fn lists_with_vacancies(c: &mut Comparison) {
+    let versions = ["", "<s/>", "<s><f>x</f><k><p>1</p></k></s>"];
+    let mut lists: Vec<Vec<String>> = versions.iter().map(|version| vec![version.to_string()]).collect();
+    for number in 0..120 {
+        let list = lists[number].clone();
+        let archive = &shelf_of(&list);
+        read_all(c, KEYS, archive, &[0, 1, 2, 3, 4, 5], &["/s", "/s/f", "/s/k[p=\"1\"]", "/s/k[p=\"1\"]/v", "/t", ""]);
+        mark_all(c, archive, &table(&some_marks(4, list.len())), &[b"m0", b"m1", b"m2", b"m3", b"new"], &[0, 1, list.len(), list.len() + 1]);
+        for version in versions {
+            let next = [&list[..], &[version.to_string()]].concat();
+            let call = Call::Add { archive, version: version.as_bytes() };
+            let added = c.ask_each_output(KEYS.as_bytes(), call);
+            c.shelf_gives(KEYS.as_bytes(), call, &added.bytes, &shelf_of(&next));
+            lists.push(next);
+        }
+    }
+}
+
+/// Archives of one to three versions around a root, its own `T` and nothing, legal and near it.
+fn archives_with_vacancies(c: &mut Comparison) {
+    let mut insides: Vec<String> = ["", " ", "\n", "x", "<s></s>", " <s></s>", "<s></s><s></s>", "<T t=\"1\"></T>", "<T t=\"\"></T>", "<T t=\"1\"> </T>"].map(String::from).to_vec();
+    for own in ["", "0", "1", "2", "3", "1-2", "2-3", "1,3", "1,2", "1-3", "1-4", "4", "1-"] {
+        for root in ["<s></s>", "<s/>", "<t></t>", "<s></s><s></s>", " <s></s>", "<s></s>\n", "<T t=\"1\"><s></s></T>", "<s><T t=\"1\"><f></f></T></s>", "<s><T t=\"1,3\"><f></f></T></s>", "<s><T t=\"2\"><f></f></T></s>", "<s><f><T t=\"1\">x</T><T t=\"3\">y</T></f></s>", "<s><f><T t=\"1\">x</T><T t=\"2-3\">y</T></f></s>"] {
+            insides.push(format!("<T t=\"{own}\">{root}</T>"));
+        }
+        for beside in ["<s></s>", "<T t=\"1\"><s></s></T>", "<T t=\"3\"><s></s></T>", "<T t=\"2\"><s><f></f></s></T>", " "] {
+            insides.push(format!("<T t=\"{own}\"><s></s></T>{beside}"));
+            insides.push(format!("{beside}<T t=\"{own}\"><s></s></T>"));
+        }
+    }
+    for all in ["1", "1-2", "1-3", "1,3", "2-3", ""] {
+        for inside in &insides {
+            let archive = format!("<T t=\"{all}\">{inside}</T>");
+            for i in [1, 2, 3] {
+                c.ask_each_output(KEYS.as_bytes(), Call::Retrieve { archive: archive.as_bytes(), i });
+                c.ask_each_output(KEYS.as_bytes(), Call::Back { archive: archive.as_bytes(), table: &UNUSED, i });
+            }
+            read_all(c, KEYS, archive.as_bytes(), &[], &["/s", "/s/f"]);
+            ["", "<s/>", "<s><f>y</f></s>"].iter().for_each(|version| {
+                add(c, KEYS, archive.as_bytes(), version);
+            });
+        }
+    }
+}
+
+/// Full archives that a vacant version is added to, which puts the root in a `T` of its own: 15 bytes;
+/// versions about as large as one may be, in an archive with a vacant one.
+fn struck_off_at_the_limit(c: &mut Comparison) {
+    let three = |third: usize| [f(&"x".repeat(16_000)), f(&"y".repeat(16_000)), f(&"z".repeat(third))];
+    let exact = 32_768 - (shelf_of(&three(1)).len() - 1);
+    for third in [exact - 16, exact - 15, exact - 14, exact] {
+        let archive = add(c, KEYS, &shelf_of(&three(third)), "\n");
+        if !archive.is_empty() {
+            read_all(c, KEYS, &archive, &[3, 4], &["/s"]);
+            add(c, KEYS, &archive, "");
+            add(c, KEYS, &archive, &three(third)[0]);
+        }
+    }
+    let content = |name: &str, count: usize| f(&format!("<{name}/>").repeat(count));
+    for third in [12, 13] {
+        let full = shelf_of(&[content("a", 510), content("b", 500), content("c", third)]);
+        add(c, KEYS, &full, "");
+    }
+    for content in [509, 510, 511].map(|count| "<a></a>".repeat(count)).into_iter().chain([16_383, 16_384, 16_385].map(|size| "x".repeat(size - f("").len()))) {
+        for archive in [format!("<T t=\"1-2\"><T t=\"1\">{}</T></T>", f(&content)), format!("<T t=\"1-3\"><T t=\"1,3\"><s><f><T t=\"1\"></T><T t=\"3\">{content}</T></f></s></T></T>")] {
+            read_all(c, KEYS, archive.as_bytes(), &[1, 2, 3], &["/s"]);
+            add(c, KEYS, archive.as_bytes(), "");
+        }
     }
 }

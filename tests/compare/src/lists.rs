@@ -11,7 +11,8 @@ use crate::versions::{self, Tree};
 use reference::shelf::Shelf;
 
 /// What a list has come to: the archive, the table of marks, the shelf, and the versions' trees (for
-/// addresses and as models of later versions; they may not tell what is on the shelf exactly).
+/// addresses and as models of later versions; they may not tell what is on the shelf exactly: that of
+/// a vacant version is what the station was like before, or is to be).
 struct Standing {
     archive: Vec<u8>,
     table: Vec<u8>,
@@ -46,11 +47,11 @@ pub fn round(c: &mut Comparison, r: &mut Random) {
     }
 }
 
-/// A list of calls: the founding, adds, marks set, steps back by number and by name, refused ones
-/// between them, then retrievals and histories. After each call that was not refused, result and
+/// A list of calls: the founding, adds, of vacant versions too, marks set, steps back by number and by
+/// name, refused ones between them, then retrievals and histories. After each call that was not refused, result and
 /// table are measured against the shelf.
 fn list(c: &mut Comparison, r: &mut Random, keys: &Keys, model: Tree) -> Option<Standing> {
-    let text = versions::spelled(r, keys, &model);
+    let text = if r.chance(15) { versions::vacant(r) } else { versions::spelled(r, keys, &model) };
     let call = Call::Found { version: &text };
     let founded = c.ask(r, &keys.text, call);
     if founded.number != 0 {
@@ -60,7 +61,7 @@ fn list(c: &mut Comparison, r: &mut Random, keys: &Keys, model: Tree) -> Option<
     c.shelf_gives(&keys.text, call, &founded.bytes, &shelf.archive());
     let mut standing = Standing { archive: founded.bytes, table: shelf.table(), shelf, trees: vec![model] };
     for _ in 0..r.choose(&[0, 2, 4, 8, 12, 16]) {
-        match r.below(30) {
+        match r.below(32) {
             0..=12 => {
                 let earlier = r.pick(&standing.trees).clone();
                 let latest = standing.trees.last().unwrap();
@@ -88,7 +89,8 @@ fn list(c: &mut Comparison, r: &mut Random, keys: &Keys, model: Tree) -> Option<
                 back(c, r, keys, &mut standing, i);
             }
             20 | 21 => back_to_mark(c, r, keys, &mut standing),
-            22 if r.chance(10) => (0..33).for_each(|_| set_mark(c, r, keys, &mut standing)),
+            22 | 23 => (0..r.choose(&[1, 1, 2, 3])).for_each(|_| strike_off(c, r, keys, &mut standing)),
+            24 if r.chance(10) => (0..33).for_each(|_| set_mark(c, r, keys, &mut standing)),
             _ => set_mark(c, r, keys, &mut standing),
         }
     }
@@ -111,6 +113,13 @@ fn add(c: &mut Comparison, r: &mut Random, keys: &Keys, standing: &mut Standing,
         standing.trees.push(tree);
     }
     added.number
+}
+
+/// Adds a vacant version.
+fn strike_off(c: &mut Comparison, r: &mut Random, keys: &Keys, standing: &mut Standing) {
+    let text = versions::vacant(r);
+    let tree = standing.trees.last().unwrap().clone();
+    add(c, r, keys, standing, text, tree);
 }
 
 fn back(c: &mut Comparison, r: &mut Random, keys: &Keys, standing: &mut Standing, i: usize) {
@@ -199,7 +208,11 @@ fn near(c: &mut Comparison, r: &mut Random, keys: &Keys, standing: &Standing) {
     let tree = r.pick(&standing.trees);
     match r.below(5) {
         0 => {
-            let version = if r.chance(90) { versions::spelled(r, keys, tree) } else { versions::damaged(r, keys, tree) };
+            let version = match r.below(20) {
+                0 | 1 => versions::damaged(r, keys, tree),
+                2 | 3 => versions::vacant(r),
+                _ => versions::spelled(r, keys, tree),
+            };
             c.ask(r, &key_list, Call::Add { archive: &archive, version: &version });
         }
         1 => {
@@ -274,6 +287,9 @@ fn heavy(c: &mut Comparison, r: &mut Random) {
     let mut standing = Standing { archive: founded.bytes, table: shelf.table(), shelf, trees: vec![tree] };
     let by_nodes = r.chance(50);
     for number in 0..8 {
+        if r.chance(10) {
+            strike_off(c, r, &keys, &mut standing);
+        }
         let mut tree = versions::legal(r, &keys);
         let name = format!("h{number}");
         let filled = if by_nodes {
@@ -307,6 +323,9 @@ fn heavy(c: &mut Comparison, r: &mut Random) {
         let tree = standing.trees[0].clone();
         add(c, r, &keys, &mut standing, text, tree);
     }
+    if r.chance(50) {
+        strike_off(c, r, &keys, &mut standing);
+    }
     (0..r.below(5)).for_each(|_| set_mark(c, r, &keys, &mut standing));
     read_back(c, r, &keys, &standing);
     for _ in 0..3 {
@@ -317,7 +336,8 @@ fn heavy(c: &mut Comparison, r: &mut Random) {
     back(c, r, &keys, &mut standing, i);
 }
 
-/// Many versions, up to 999: timestamps of more than one word.
+/// Many versions, up to 999: timestamps of more than one word. In half of the rounds the station is
+/// struck off and relit all the time, or now and then.
 fn long(c: &mut Comparison, r: &mut Random) {
     let wanted = 1 + r.below(6);
     let keys = keylists::sized(r, wanted);
@@ -327,11 +347,14 @@ fn long(c: &mut Comparison, r: &mut Random) {
         trees.push(tree);
     }
     let n = r.choose(&[63, 64, 65, 66, 70, 100, 127, 128, 129, 130, 200, 300, 998, 999]);
+    let percent = r.choose(&[0, 0, 4, 60]);
+    let mut lit = !r.chance(percent);
     let mut shelf = None;
     let mut kept = vec![];
     for _ in 0..n {
         let tree = r.pick(&trees).clone();
-        let text = versions::spelled(r, &keys, &tree);
+        let text = if lit { versions::spelled(r, &keys, &tree) } else { versions::vacant(r) };
+        lit ^= r.chance(percent);
         match &mut shelf {
             None => shelf = Shelf::found(&keys.text, &text).ok(),
             Some(shelf) => shelf.add(&text).expect("a legal version"),
@@ -344,6 +367,10 @@ fn long(c: &mut Comparison, r: &mut Random) {
         return;
     }
     for _ in 0..2 {
+        if r.chance(30) {
+            strike_off(c, r, &keys, &mut standing);
+            continue;
+        }
         let tree = r.pick(&trees).clone();
         let text = versions::spelled(r, &keys, &tree);
         add(c, r, &keys, &mut standing, text, tree);

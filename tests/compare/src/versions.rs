@@ -316,8 +316,33 @@ const SNIPPETS: [&str; 34] = [
     "<T t=\"1\">", "<T>", "</T>", "<T/>", "<a/>", "<a></a>", "x", " ", "&amp;", "<name_of_thirty_three_bytes_xxxxxxx/>", "<xml/>", "<a:b/>",
 ];
 
-/// A text near a legal version: its tree damaged once or twice, or its bytes.
+/// A vacant version: empty, or white space alone, now and then as long as a version may be.
+pub fn vacant(r: &mut Random) -> Vec<u8> {
+    let length = match r.below(20) {
+        0..=6 => 0,
+        7..=17 => 1 + r.below(9),
+        _ => 16_384 - r.below(2),
+    };
+    (0..length).map(|_| r.choose(b" \t\r\n")).collect()
+}
+
+/// A text near a vacant version: with one other byte, or about as long as a version may be.
+fn near_vacant(r: &mut Random) -> Vec<u8> {
+    let mut text = vacant(r);
+    if r.chance(30) {
+        text.resize(16_383 + r.below(3), b' ');
+    } else {
+        let at = r.below(text.len() + 1);
+        text.insert(at, r.choose(b"x<>&/;\0\x08\x0b\x0c\x0e\x1f!\x7f\x80\x85\xa0\xff"));
+    }
+    text
+}
+
+/// A text near a legal version: its tree damaged once or twice, or its bytes; or one near a vacant version.
 pub fn damaged(r: &mut Random, keys: &Keys, tree: &Tree) -> Vec<u8> {
+    if r.chance(6) {
+        return near_vacant(r);
+    }
     let mut tree = tree.clone();
     let count = r.choose(&[0, 1, 1, 1, 1, 2, 2, 3]);
     for _ in 0..count {

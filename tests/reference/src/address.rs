@@ -2,7 +2,7 @@
 
 use crate::keys::{join, split, KeyList};
 use crate::timestamp::{self, Timestamp};
-use crate::version::{elements, key, Element, Key};
+use crate::version::{elements, key, Element, Key, Version};
 use crate::xml::is_value;
 use crate::Outcome;
 
@@ -45,9 +45,9 @@ fn conditions_values(key_names: &[Vec<u8>], text: &[u8]) -> Option<Vec<Vec<u8>>>
 }
 
 /// A version holds an address if it has, from its root down, an element for each step with that
-/// name and those key values.
-pub fn holds(keys: &KeyList, version: &Element, address: &Address) -> bool {
-    element_holds(keys, b"", version, address)
+/// name and those key values. A vacant version holds no address.
+pub fn holds(keys: &KeyList, version: &Version, address: &Address) -> bool {
+    version.as_ref().is_some_and(|root| element_holds(keys, b"", root, address))
 }
 
 fn element_holds(keys: &KeyList, parent: &[u8], element: &Element, steps: &[Key]) -> bool {
@@ -63,7 +63,7 @@ fn key_is(keys: &KeyList, parent: &[u8], element: &Element, step: &Key) -> bool 
 }
 
 /// The text of the set of numbers whose versions hold the address.
-pub fn history(keys: &KeyList, versions: &[Element], address: &Address) -> Vec<u8> {
+pub fn history(keys: &KeyList, versions: &[Version], address: &Address) -> Vec<u8> {
     let held = (1..).zip(versions).filter(|(_, version)| holds(keys, version, address));
     let set: Timestamp = held.map(|(number, _)| number).collect();
     timestamp::text(&set)

@@ -2,7 +2,7 @@
 
 use crate::keys::{join, KeyList};
 use crate::timestamp::{self, Timestamp};
-use crate::version::{self, elements, key, Element, Key, Node};
+use crate::version::{self, elements, key, Element, Key, Node, Version};
 use crate::written::Written;
 use crate::{Outcome, ARCHIVE_NODES};
 use std::collections::BTreeMap;
@@ -10,13 +10,17 @@ use std::collections::BTreeMap;
 /// The versions that contain a keyed element: number and the element there, ascending.
 type Standing<'a> = Vec<(usize, &'a Element)>;
 
-/// The archive of n legal versions, n at least 1.
-pub fn archive(keys: &KeyList, versions: &[Element]) -> Written {
-    let roots: Standing = (1..).zip(versions).collect();
-    let all = set_of(&roots);
+/// The archive of n legal versions, n at least 1. "The outer `T` still reads `1-n`. The root is
+/// treated as any other child: wrapped in its own `T` when its set differs, and left out if no
+/// version has it" (Q-6).
+pub fn archive(keys: &KeyList, versions: &[Version]) -> Written {
+    let all: Timestamp = (1..=versions.len()).collect();
+    let roots: Standing = (1..).zip(versions).filter_map(|(number, version)| Some((number, version.as_ref()?))).collect();
     let mut out = Written::default();
     out.open_t(&all);
-    keyed_element(keys, b"", &roots, &all, &mut out);
+    if !roots.is_empty() {
+        keyed_element(keys, b"", &roots, &all, &mut out);
+    }
     out.close_t();
     out
 }
@@ -80,10 +84,10 @@ fn frontier_contents(standing: &Standing, out: &mut Written) {
 /// The versions of a legal archive, or 10.
 ///
 /// If a text is the archive of some versions, then they are its candidates (as version texts in
-/// written form). So it is legal exactly if its candidates are legal versions and it is their archive.
-pub fn versions(keys: &KeyList, text: &[u8]) -> Outcome<Vec<Element>> {
+/// written form; that of a vacant version is empty). So it is legal exactly if its candidates are legal versions and it is their archive.
+pub fn versions(keys: &KeyList, text: &[u8]) -> Outcome<Vec<Version>> {
     let candidates = candidates(text).ok_or(10u32)?;
-    let versions: Outcome<Vec<Element>> = candidates.iter().map(|text| version::read(keys, text)).collect();
+    let versions: Outcome<Vec<Version>> = candidates.iter().map(|text| version::read(keys, text)).collect();
     let versions = versions.map_err(|_| 10u32)?;
     let archive = archive(keys, &versions);
     if archive.bytes != text || archive.nodes > ARCHIVE_NODES {

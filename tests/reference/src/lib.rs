@@ -1,5 +1,5 @@
-//! The station archive of document 01, with document 02's marks: a second implementation, by the
-//! definitions.
+//! The station archive of document 01, with document 02's marks and vacant versions: a
+//! second implementation, by the definitions.
 //!
 //! The archive is computed from the list of versions, never by merging. A text is a legal
 //! archive exactly if it is the archive of the only versions that it can be the archive of.
@@ -17,7 +17,7 @@ pub mod xml;
 
 use keys::KeyList;
 use marks::Mark;
-use version::Element;
+use version::Version;
 use written::Written;
 
 /// What a call returns: number 0 and the result, or a refusal's number and no bytes.
@@ -137,7 +137,7 @@ pub fn back_to_mark(keys: &[u8], archive: &[u8], table: &mut [u8], name: &[u8], 
 }
 
 /// The archive of the versions that are kept; the table loses the marks of the others.
-fn step_back(keys: &KeyList, kept: &[Element], mut marks: Vec<Mark>, table: &mut [u8], out_len: usize) -> Outcome<Vec<u8>> {
+fn step_back(keys: &KeyList, kept: &[Version], mut marks: Vec<Mark>, table: &mut [u8], out_len: usize) -> Outcome<Vec<u8>> {
     let result = into_output(archive::archive(keys, kept), out_len)?;
     marks::drop_later(&mut marks, kept.len());
     table.copy_from_slice(&marks::bytes(&marks::table(&marks)));
@@ -145,7 +145,7 @@ fn step_back(keys: &KeyList, kept: &[Element], mut marks: Vec<Mark>, table: &mut
 }
 
 /// 1 to 4, 10 and 17: what a call over a key list, an archive and a table is lent.
-fn lent_marks(keys: &[u8], archive: &[u8], table: &[u8], work_len: usize) -> Outcome<(KeyList, Vec<Element>, Vec<Mark>)> {
+fn lent_marks(keys: &[u8], archive: &[u8], table: &[u8], work_len: usize) -> Outcome<(KeyList, Vec<Version>, Vec<Mark>)> {
     lent(work_len, &[(keys, KEY_LIST_BYTES), (archive, ARCHIVE_BYTES)])?;
     let keys = KeyList::read(keys)?;
     let versions = archive::versions(&keys, archive)?;

@@ -2,13 +2,13 @@
 
 use crate::keys::KeyList;
 use crate::marks::{self, Mark};
-use crate::version::{self, Element};
+use crate::version::{self, Version};
 use crate::{address, archive, Outcome};
 
 /// A plain list of received versions, numbered from 1, under a key list, and a plain list of marks.
 pub struct Shelf {
     keys: KeyList,
-    versions: Vec<Element>,
+    versions: Vec<Version>,
     marks: Vec<Mark>,
 }
 

@@ -6,7 +6,10 @@ use crate::xml::{self, is_value, is_white_space, Token};
 use crate::{Outcome, DEPTH, VERSION_BYTES, VERSION_NODES};
 use std::collections::BTreeSet;
 
-/// An element. A version is its root.
+/// A version: its root, or none if it is vacant. "A version that is empty or white space alone is
+/// now legal, replacing case P8, and holds no address" (Q-6).
+pub type Version = Option<Element>;
+
 #[derive(Clone, Debug, PartialEq, Eq)]
 pub struct Element {
     pub name: Vec<u8>,
@@ -21,7 +24,10 @@ pub enum Node {
 }
 
 /// The version that a text is, or the refusal, 5 to 9.
-pub fn read(keys: &KeyList, text: &[u8]) -> Outcome<Element> {
+pub fn read(keys: &KeyList, text: &[u8]) -> Outcome<Version> {
+    if is_white_space(text) {
+        return Ok(None);
+    }
     let tokens = kept(keys, xml::read(text).ok_or(5u32)?);
     if depth(&tokens) > DEPTH || nodes(&tokens) > VERSION_NODES || written_length(&tokens) > VERSION_BYTES {
         return Err(6);
@@ -36,7 +42,7 @@ pub fn read(keys: &KeyList, text: &[u8]) -> Outcome<Element> {
     if !distinct_siblings(keys, b"", &root) {
         return Err(9);
     }
-    Ok(root)
+    Ok(Some(root))
 }
 
 /// Without the runs of white space directly in an element whose path is listed and no frontier.
@@ -174,10 +180,13 @@ pub fn key(keys: &KeyList, parent: &[u8], element: &Element) -> Key {
     (element.name.clone(), listed.key_names.iter().map(value_of).collect())
 }
 
-/// The written form of a legal version.
-pub fn written(keys: &KeyList, version: &Element) -> Written {
+/// The written form of a legal version. "Retrieving such a version gives length 0" (Q-6): a vacant
+/// one has no bytes.
+pub fn written(keys: &KeyList, version: &Version) -> Written {
     let mut out = Written::default();
-    write(keys, b"", version, &mut out);
+    if let Some(root) = version {
+        write(keys, b"", root, &mut out);
+    }
     out
 }
 

@@ -1,4 +1,4 @@
-//! The record of one station: the three archives and P1 to P10.
+//! The record of one station: the three archives, P1 to P10, and the station struck off and relit.
 
 use reference::marks::TABLE_BYTES;
 use reference::{add, back, check_keys, found, history, retrieve, Answer, WORK_CELLS};
@@ -41,7 +41,8 @@ fn p1_to_p10() {
     assert_eq!(back(1), gives(LINE1), "P5");
     assert_eq!(back(0), refused(11), "P6");
     assert_eq!(retrieve(keys, archive, 4, 4_096, WORK_CELLS), refused(11), "P7");
-    assert_eq!(found(""), refused(5), "P8");
+    // Q-6: "A version that is empty or white space alone is now legal, replacing case P8."
+    assert_eq!(found(""), gives(r#"<T t="1"></T>"#), "P8");
     assert_eq!(found("<station><lamp><pos>2</pos></lamp><lamp><pos>2</pos></lamp></station>"), refused(9), "P9");
     assert_eq!(found("<station><lamp><type>A</type></lamp></station>"), refused(8), "P10");
 }
@@ -53,6 +54,26 @@ fn versions_read_back() {
     assert_eq!(retrieve(1), gives("<station><lamp><hours>40</hours><pos>2</pos><type>A</type></lamp><light>Fl 5s</light></station>"));
     assert_eq!(retrieve(2), gives("<station><lamp><pos>1</pos><type>B</type></lamp><lamp><hours>90</hours><pos>2</pos><type>A</type></lamp><light>Fl 5s</light></station>"));
     assert_eq!(retrieve(3), gives("<station><lamp><pos>1</pos><type>B</type></lamp><light>Fl 5s</light></station>"));
+}
+
+/// The station is struck off after version 3, and relit as it was then.
+#[test]
+fn struck_off_and_relit() {
+    let line4 = r#"<T t="1-4"><T t="1-3"><station><T t="2-3"><lamp><pos>1</pos><type>B</type></lamp></T><T t="1-2"><lamp><hours><T t="1">40</T><T t="2">90</T></hours><pos>2</pos><type>A</type></lamp></T><light>Fl 5s</light></station></T></T>"#;
+    let line5 = r#"<T t="1-5"><T t="1-3,5"><station><T t="2-3,5"><lamp><pos>1</pos><type>B</type></lamp></T><T t="1-2"><lamp><hours><T t="1">40</T><T t="2">90</T></hours><pos>2</pos><type>A</type></lamp></T><light>Fl 5s</light></station></T></T>"#;
+    let (keys, archive) = (KEYS.as_bytes(), line5.as_bytes());
+    assert_eq!(add(keys, LINE3.as_bytes(), b"", line4.len(), WORK_CELLS), gives(line4));
+    assert_eq!(add(keys, line4.as_bytes(), V3.as_bytes(), line5.len(), WORK_CELLS), gives(line5));
+    assert_eq!(add(keys, line4.as_bytes(), V3.as_bytes(), line5.len() - 1, WORK_CELLS), refused(14));
+    let history = |address: &str| history(keys, archive, address.as_bytes(), 4_096, WORK_CELLS);
+    assert_eq!(history("/station"), gives("1-3,5"));
+    assert_eq!(history("/station/light"), gives("1-3,5"));
+    assert_eq!(history(r#"/station/lamp[pos="1"]"#), gives("2-3,5"));
+    assert_eq!(retrieve(keys, archive, 4, 0, WORK_CELLS), gives(""));
+    let lit = "<station><lamp><pos>1</pos><type>B</type></lamp><light>Fl 5s</light></station>";
+    assert_eq!(retrieve(keys, archive, 5, lit.len(), WORK_CELLS), gives(lit));
+    let back = |i| back(keys, archive, &mut [0; TABLE_BYTES], i, 4_096, WORK_CELLS);
+    assert_eq!((back(5), back(4), back(3), back(2)), (gives(line5), gives(line4), gives(LINE3), gives(LINE2)));
 }
 
 /// The shelving mistakes.

@@ -71,7 +71,7 @@ impl Address<'_> {
     /// Where the text of the set of versions holding the address stands in the archive; an
     /// empty span if there are none.
     pub fn history(&self, keys: &KeyList, archive: &Archive) -> Span {
-        let mut element = 0;
+        let Some(mut element) = archive.root() else { return Span::default() };
         for step in &self.steps[1..] {
             let mut children = archive.children(element);
             match children.find(|&child| self.fits(keys, archive, &archive.elements[child], step)) {

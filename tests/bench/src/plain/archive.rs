@@ -5,7 +5,7 @@
 //! sets a partition, and the sizes of all versions by differences over the runs of the sets.
 
 use super::keys::{KeyList, NONE};
-use super::text::{is_value, name_end, ordinary_end, same, stands, stands_name, Span};
+use super::text::{is_value, name_end, ordinary_end, stands, stands_name, Span};
 use super::timestamp::{Run, Runs, Timestamp};
 use super::version::written_entity;
 use super::{ARCHIVE_NODES, DEPTH, VERSIONS, VERSION_BYTES, VERSION_NODES};
@@ -43,7 +43,7 @@ pub struct Content {
     pub here: bool,
 }
 
-/// A legal archive.
+/// A legal archive. The root is its first element; if all versions are vacant, it has none.
 pub struct Archive<'a> {
     pub text: &'a [u8],
     pub n: u16,
@@ -58,6 +58,11 @@ impl Archive<'_> {
     #[inline]
     pub fn value(&self, element: &Element, slot: usize) -> &[u8] {
         self.values[element.values as usize + slot].of(self.text)
+    }
+
+    /// The root's number; none if all versions are vacant.
+    pub fn root(&self) -> Option<usize> {
+        (!self.elements.is_empty()).then_some(0)
     }
 
     pub fn contents(&self, frontier: &Element) -> &[Content] {
@@ -120,11 +125,12 @@ impl Reader<'_> {
         }
         let mut set = Timestamp::EMPTY;
         set.insert(all);
-        let end = name_end(self.text, self.past(at, b"<")?)?;
-        if !same(&self.text[at + 1..end], self.keys.paths[0].name) {
-            return None;
-        }
-        let at = self.element(at, Place { path: 0, depth: 1, wrapped: false, set_text, here: true, differs: false }, &set)?;
+        let at = if stands(self.text, at, CLOSE_T) {
+            at
+        } else {
+            let around = Place { path: NONE, depth: 0, wrapped: false, set_text, here: true, differs: false };
+            self.child(at, &around, &set, |reader, at| reader.root_path(at))?
+        };
         self.close_t(0)?;
         let fits = self.archive.nodes <= ARCHIVE_NODES && self.sizes_fit();
         (self.past(at, CLOSE_T)? == self.text.len() && fits).then_some(())
@@ -242,7 +248,7 @@ impl<'a> Reader<'a> {
         while !stands(self.text, at, b"</") {
             let number = self.archive.elements.len();
             let hint = previous.as_ref().map_or(self.keys.first_rank(place.path), |previous| previous.rank);
-            at = self.child(at, place, hint, set)?;
+            at = self.child(at, place, set, |reader, at| reader.child_path(at, place, hint))?;
             let child = &self.archive.elements[number];
             let child_path = &self.keys.paths[child.path as usize];
             if child_path.slot != NONE {
@@ -258,10 +264,11 @@ impl<'a> Reader<'a> {
         (keys_seen == path.key_count).then_some(at)
     }
 
-    /// A child, alone or in a `T` whose set is a part of its parent's.
-    fn child(&mut self, at: usize, parent: &Place, hint: u8, set: &Timestamp) -> Option<usize> {
+    /// A child, alone or in a `T` whose set is a part of its parent's. The root is one too, of what stands around it.
+    #[inline]
+    fn child(&mut self, at: usize, parent: &Place, set: &Timestamp, path: impl Fn(&Self, usize) -> Option<u8>) -> Option<usize> {
         if !stands(self.text, at, OPEN_T) {
-            let path = self.child_path(at, parent, hint)?;
+            let path = path(self, at)?;
             let place = Place { path, depth: parent.depth + 1, wrapped: false, differs: false, ..*parent };
             return self.element(at, place, set);
         }
@@ -274,7 +281,7 @@ impl<'a> Reader<'a> {
         if !own.is_subset(set) || own == *set {
             return None;
         }
-        let path = self.child_path(begin, parent, hint)?;
+        let path = path(self, begin)?;
         let differs = own.differs(set, self.i);
         let place = Place { path, depth: parent.depth + 1, wrapped: true, set_text, here: own.contains(self.i), differs };
         let around = std::mem::take(&mut self.scope);
@@ -282,6 +289,14 @@ impl<'a> Reader<'a> {
         self.close_t(runs)?;
         self.scope = around;
         self.past(end, CLOSE_T)
+    }
+
+    /// The root's path, if its first tag is at a place; that its name ends there is seen when it is read.
+    /// It is asked once, and not inlined, so that the loop over children is as fast as without it.
+    #[inline(never)]
+    fn root_path(&self, at: usize) -> Option<u8> {
+        let begin = self.past(at, b"<")?;
+        stands_name(self.text, begin, self.keys.paths[0].name).then_some(0)
     }
 
     /// The path of the child whose first tag is at a place.

@@ -1,4 +1,5 @@
-//! Document 01's six calls and document 02's three over marks, plain and fast: what one would write for speed, without proofs.
+//! Document 01's six calls and document 02's three over marks, with vacant versions, plain and fast: what one would write
+//! for speed, without proofs.
 //!
 //! Texts are read in one pass into flat arrays; siblings are merged by two pointers; an archive
 //! is checked where it stands, and unchanged parts of it are copied as they are. The work is on
@@ -45,7 +46,9 @@ pub fn found(keys: &[u8], version: &[u8], out: &mut [u8]) -> (u32, usize) {
         let version = version::read(&keys, version)?;
         let mut bytes = Vec::with_capacity(version.length + 13);
         bytes.extend_from_slice(b"<T t=\"1\">");
-        version.write(&keys, 0, &mut bytes);
+        if let Some(root) = version.root() {
+            version.write(&keys, root, &mut bytes);
+        }
         bytes.extend_from_slice(archive::CLOSE_T);
         give(&bytes, out)
     })

@@ -17,7 +17,7 @@ pub struct Element {
     pub inside: Span,
 }
 
-/// A legal version.
+/// A legal version. The root is its first element; a vacant version has none.
 pub struct Version {
     pub elements: Vec<Element>,
     /// Children, in the order of the written form.
@@ -38,6 +38,11 @@ impl Version {
     #[inline]
     pub fn value(&self, element: &Element, slot: usize) -> &[u8] {
         self.values[element.values as usize + slot].of(&self.frontiers)
+    }
+
+    /// The root; none if the version is vacant.
+    pub fn root(&self) -> Option<u16> {
+        (!self.elements.is_empty()).then_some(0)
     }
 
     /// The content of a frontier, in written form.
@@ -145,11 +150,13 @@ impl Reader<'_> {
         }
     }
 
-    /// The whole text; none if it isn't in the subset.
+    /// The whole text, which may be of white space alone; none if it isn't in the subset.
     fn document(&mut self) -> Option<()> {
         let mut at = white_end(self.text, 0);
-        if *self.text.get(at)? != b'<' {
-            return None;
+        match self.text.get(at) {
+            None => return Some(()),
+            Some(b'<') => (),
+            Some(_) => return None,
         }
         loop {
             at = self.tag(at)?;

@@ -71,7 +71,9 @@ impl<'a> Output<'a> {
 /// The written form of the version that the archive was read for, in 1 to n.
 pub fn retrieved(keys: &KeyList, archive: &Archive) -> Vec<u8> {
     let mut out = Output::new(archive.text, archive.text.len());
-    retrieve(keys, archive, 0, &mut out);
+    if let Some(root) = archive.root().filter(|&root| archive.elements[root].here) {
+        retrieve(keys, archive, root, &mut out);
+    }
     out.copy();
     out.bytes
 }
@@ -101,9 +103,28 @@ pub fn stepped_back(keys: &KeyList, archive: &Archive, i: u16) -> Vec<u8> {
     }
     let mut out = Output::new(archive.text, archive.text.len());
     out.open_t(|bytes| timestamp::write_all(i, bytes));
-    step_back(keys, archive, 0, i, &mut out);
+    if let Some(root) = archive.root() {
+        step_back_child(keys, archive, root, i, &mut out);
+    }
     out.close_t();
     out.bytes
+}
+
+/// A child, or the root, in its `T` if there still is one; nothing if it is in none of the first i versions.
+fn step_back_child(keys: &KeyList, archive: &Archive, child: usize, i: u16, out: &mut Output) {
+    let standing = &archive.elements[child];
+    let set = standing.set.of(archive.text);
+    if !standing.wrapped {
+        step_back(keys, archive, child, i, out);
+    } else if timestamp::first(set) <= i {
+        if standing.differs {
+            out.open_t(|bytes| timestamp::write_to(set, i, bytes));
+        }
+        step_back(keys, archive, child, i, out);
+        if standing.differs {
+            out.close_t();
+        }
+    }
 }
 
 /// An element that is in one of the first i versions, without the `T` around it.
@@ -127,18 +148,7 @@ fn step_back(keys: &KeyList, archive: &Archive, number: usize, i: u16, out: &mut
         }
     }
     for child in archive.children(number) {
-        let standing = &archive.elements[child];
-        if !standing.wrapped {
-            step_back(keys, archive, child, i, out);
-        } else if timestamp::first(standing.set.of(text)) <= i {
-            if standing.differs {
-                out.open_t(|bytes| timestamp::write_to(standing.set.of(text), i, bytes));
-            }
-            step_back(keys, archive, child, i, out);
-            if standing.differs {
-                out.close_t();
-            }
-        }
+        step_back_child(keys, archive, child, i, out);
     }
     out.keep_last_tag(keys, element);
 }
@@ -159,7 +169,7 @@ pub fn added(keys: &KeyList, archive: &Archive, version: &Version) -> (Vec<u8>, 
     let out = Output::new(archive.text, archive.text.len() + version.length + 1_024);
     let mut merge = Merge { keys, archive, version, n: archive.n + 1, out, nodes: archive.nodes };
     merge.out.open_t(|bytes| timestamp::write_all(archive.n + 1, bytes));
-    merge.both(0, 0);
+    merge.child(archive.root(), version.root());
     merge.out.close_t();
     (merge.out.bytes, merge.nodes)
 }
@@ -184,14 +194,19 @@ impl Merge<'_> {
             };
             let old = if order.is_le() { olds.next() } else { None };
             let new = if order.is_ge() { news.next() } else { None };
-            match (old, new) {
-                (Some(old), Some(new)) => self.standing(old, new),
-                (Some(old), None) => self.gone(old),
-                (None, Some(new)) => self.come(new),
-                (None, None) => (),
-            }
+            self.child(old, new);
         }
         self.out.keep_last_tag(self.keys, element);
+    }
+
+    /// A child, or the root, of the archive, of the version or of both.
+    fn child(&mut self, old: Option<usize>, new: Option<u16>) {
+        match (old, new) {
+            (Some(old), Some(new)) => self.standing(old, new),
+            (Some(old), None) => self.gone(old),
+            (None, Some(new)) => self.come(new),
+            (None, None) => (),
+        }
     }
 
     fn order(&self, old: usize, new: u16) -> Ordering {

@@ -155,7 +155,7 @@ fn key_refusals() {
 }
 
 fn version_refusals() {
-    founds("refusal 5", b"", ROOM);
+    founds("refusal 5", b"<s>", ROOM);
     founds("refusal 6", &version(">", 4_093, ""), ROOM);
     founds("refusal 7", b"<s>x</s>", ROOM);
     founds("refusal 8", b"<s><k/></s>", ROOM);
@@ -233,6 +233,31 @@ fn nodes() {
     adds("refusal 13", &two, &version("<c/>", 13, ""), ROOM);
 }
 
+/// Vacant versions: founding, striking off and relighting, stepping back across them, illegal sets of a root.
+fn vacancies(two: &[u8]) {
+    founds("vacant exact", b"", 13);
+    founds("vacant short", b" \t\r\n", 12);
+    founds("16,384 spaces", &[b' '; 16_384], ROOM);
+    let none = adds("vacant twice", b"<T t=\"1\"></T>", b"", ROOM).bytes;
+    let lit = adds("lit at last", &none, b"<s><f>x</f></s>", ROOM).bytes;
+    let off = adds("struck off", two, b"\n", ROOM).bytes;
+    let relit = adds("relit", &off, b"<s/>", ROOM).bytes;
+    retrieves("retrieve vacant", &relit, 3, 0);
+    retrieves("retrieve relit", &relit, 4, ROOM);
+    histories("history of a relit root", &relit, "/s", ROOM);
+    histories("history of no root", &none, "/s", 0);
+    backs("back to vacant", &relit, 3, ROOM);
+    backs("back past vacant", &relit, 2, ROOM);
+    backs("back to no root", &lit, 2, ROOM);
+    let table = sets("mark of a vacant version", &relit, UNUSED, b"struck-off", 3);
+    named_backs("back to the vacant mark", &relit, table, b"struck-off", ROOM);
+    retrieves("empty set", b"<T t=\"1\"><T t=\"\"><s></s></T></T>", 1, ROOM);
+    retrieves("outer set shortened", b"<T t=\"1\"><T t=\"1-2\"><s></s></T></T>", 1, ROOM);
+    retrieves("outer set repeated", b"<T t=\"1\"><T t=\"1\"><s></s></T></T>", 1, ROOM);
+    retrieves("999 vacant", b"<T t=\"1-999\"></T>", 999, 0);
+    adds("1,000 vacant", b"<T t=\"1-999\"></T>", b"", ROOM);
+}
+
 fn main() {
     sizes();
     outputs();
@@ -246,4 +271,5 @@ fn main() {
     mark_names(two);
     mark_outputs(two);
     table_refusals(two);
+    vacancies(two);
 }
