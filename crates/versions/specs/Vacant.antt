@@ -1,9 +1,12 @@
--- Vacant versions, under every key list: which texts are of one, that it holds no address, and the archive of versions that are all vacant.
-use Prim.Native.Nat.{ℕ, zero, suc}
+-- Vacant versions, under every key list: which texts are of one, that it holds no address and is retrieved with length 0, and the archive
+-- of versions that are all vacant.
+use Prim.Native.Nat.{ℕ, zero, suc, _≤_}
+use native.Mathlib.Omega.{arith}
 use mathlib.Core.Path.{_≡_, refl, sym, _∙_, ap, ap₂, subst}
 use mathlib.Core.Bool.{true, false}
 use mathlib.Core.List.{List, [], _∷_, map}
-use lib.ListN.{replicate, length-replicate}
+use borrow.Author.Tests.{le-ltb}
+use lib.ListN.{length, replicate, length-replicate}
 use Rattle.xml.specs.Bytes.{Bytes, all, isWhite}
 use Rattle.xml.specs.Forest.{Forest, end, elem, text, stamp, write, nodes, depth, Tidy, Root}
 use Rattle.xml.specs.Read.{isEnd}
@@ -15,14 +18,16 @@ use Rattle.model.specs.Orders.{labels}
 use Rattle.model.specs.Stored.{mergeS}
 use Rattle.keys.specs.Result.{ok, r6, r7, r8, r9}
 use Rattle.keys.specs.ResultLaws.{ok-inj, bind-inv, passed}
-use Rattle.keys.specs.KeyList.{KeyList, above}
+use Rattle.keys.specs.KeyList.{KeyList, keyList, above}
 use Rattle.keys.specs.Version.{_▸_, Label, dropWhite, tooLarge, misplaced, unkeyed, find, doubled, insertBy, ordered, parsed, readVersion, version}
 use Rattle.keys.specs.VersionRead.{read-vacant, read-rooted}
 use Rattle.keys.specs.Versions.{parsed-inv}
-use Rattle.keys.specs.Address.{holds}
+use Rattle.keys.specs.Address.{address, holds}
+use Rattle.keys.specs.AddressRead.{address-accepted}
 use Rattle.keys.specs.Tree.{contents, keyed}
 use Rattle.timestamp.specs.Times.{always, writeTimes}
-use Rattle.versions.specs.Archive.{archive, stamped, archiveForest, archiveOf}
+use Rattle.versions.specs.Archive.{archive, stamped, archiveForest, archiveOf, archiveText}
+use Rattle.versions.specs.Calls.{answer, room, atMost, versionAt, give, retrieve}
 
 -- ---- which texts are vacant
 -- a root is kept
@@ -54,10 +59,18 @@ module _ (K : KeyList) (s : Bytes) where
       let t = read-tidy false s (f .0) (sym (read-rooted s b) ∙ parsed-inv (readVersion s) (f .0) (f .1)) in
       absurd (root-kept K (f .0) (t .0) (t .1) (ok-inj (x9 .1))))
 
--- "and holds no address": an address has one step at least
-pub vacant-holds : (K : KeyList) (l : Label) (ls : List Label) → holds K [] (l ∷ ls) end ≡ false
+-- "and holds no address"
+pub vacant-holds : (K : KeyList) (place : Bytes) (ls : List Label) → address K place ≡ ok ls → holds K [] ls end ≡ false
 unfolding holds find
-vacant-holds K l ls = refl
+vacant-holds K place [] e = absurd (address-accepted K place [] e .some-step refl)
+vacant-holds K place (l ∷ ls) e = refl
+
+-- "Retrieving such a version gives length 0", into whatever output
+pub vacant-retrieved : (keys archive : Bytes) (K : KeyList) (vs : List Forest) (i out work : ℕ) → 16384 ≤ work → length keys ≤ 4096 → length archive ≤ 32768
+    → keyList keys ≡ ok K → archiveText K archive ≡ ok vs → versionAt i vs ≡ ok end → retrieve keys archive i out work ≡ record { number = 0; bytes = [] }
+unfolding retrieve answer room atMost give write
+vacant-retrieved keys archive K vs i out work w a b k e v =
+    rw (le-ltb work 16384 w, le-ltb 4096 (length keys) a, le-ltb 32768 (length archive) b, k, e, v, le-ltb out 0 (omega arith)) refl
 
 -- ---- versions that are all vacant
 none-merged : (K : KeyList) (m n : ℕ) → gather (mergeS labels contents) m nil (map (keyed K []) (replicate n end)) ≡ nil
