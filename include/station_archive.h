@@ -9,9 +9,8 @@
  * This holds for all texts, numbers and lengths: crates/firmware/src/lib.rt states it of each entry, as equations
  * with the definitions in crates/versions/specs/Calls.antt, and it is proved.
  *
- * The caller owes what C cannot check: no pointer is NULL, not even with length 0 (an empty version is "" and 0), each
- * is to as many bytes as the length beside it says, and neither out, marks, *version nor *length overlaps anything
- * else that the call is lent. The texts are only read.
+ * The caller owes what C cannot check: each pointer is to as many bytes as the length beside it says, and
+ * neither out, marks, *version nor *length overlaps anything else that the call is lent. The texts are only read.
  * The calls keep no state and allocate nothing, and of C's library use memcpy and memset alone. Their work cells
  * (64 KiB) and the draft of an add (32 KiB) are on the caller's stack, of which an add takes some 123 KB at most and
  * any other call some 88 KB (measured, not proved: 122,895 and 87,935 bytes in tests/bench, with key levels and
@@ -63,7 +62,8 @@ enum archive_length {
  * 608 zero bytes are a table with no mark. Keep the table beside the archive, and lend both as the last call left them. */
 
 /* A version is one root element or, where a station is struck off, vacant: empty (length 0) or white space alone. A
- * vacant version counts as any other, and holds no address; its written form is empty. */
+ * vacant version counts as any other, and holds no address; its written form is empty. An empty version is best lent as
+ * "" and 0: NULL and 0 is promised nothing. */
 
 /* Checks a key list. It has no output: *length is 0. Returns 0 or 2 to 4. */
 uint32_t archive_check_keys(const uint8_t *keys, size_t keys_len, size_t *length);
