@@ -1,4 +1,5 @@
-/* The station archive: the six calls of document 01 and the three over marks of document 02 (Q-2), for the monitor's firmware.
+/* The station archive: the six calls of document 01 and, of document 02, the three over marks (Q-2) and the longest history
+ * line (Q-14), for the monitor's firmware.
  * Link target/staticlib/libfirmware.a (made by `rt staticlib firmware`; x86-64 Linux).
  *
  * A text is a pointer and a length in bytes, with no 0 at its end. A call returns 0, or the number of the
@@ -39,7 +40,7 @@ enum archive_number {
     ARCHIVE_KEY = 8,          /* a key child missing, repeated or illegal */
     ARCHIVE_SIBLINGS = 9,     /* two siblings with one name and key */
     ARCHIVE_ILLEGAL = 10,     /* archive not legal */
-    ARCHIVE_VERSION = 11,     /* i not in 1 to n; or adding at n = 999 */
+    ARCHIVE_VERSION = 11,     /* i not in 1 to n; or adding at n = 999; or n of a longest history not in 1 to 999 */
     ARCHIVE_ADDRESS = 12,     /* address not of this form and list */
     ARCHIVE_RESULT_LARGE = 13, /* result over 1,024 nodes or 32,768 bytes */
     ARCHIVE_OUTPUT_SHORT = 14, /* output shorter than the result */
@@ -52,7 +53,8 @@ enum archive_number {
 enum archive_length {
     ARCHIVE_LENGTH_ARCHIVE = 32768, /* of archive_found, archive_add, archive_back, archive_back_to_mark */
     ARCHIVE_LENGTH_VERSION = 16384, /* of archive_retrieve */
-    ARCHIVE_LENGTH_HISTORY = 3000,  /* of archive_history: the longest text of a set of 1 to 999 has 2,591 bytes */
+    ARCHIVE_LENGTH_HISTORY = 2591,  /* of archive_history, archive_longest_history; exact: one byte less is not enough
+                                     * (theorems history-2591, history-2590: crates/versions/specs/HistoryLength.antt) */
     ARCHIVE_LENGTH_MARKS = 608      /* exactly: 32 entries of 19 bytes */
 };
 
@@ -109,6 +111,12 @@ uint32_t archive_back(const uint8_t *keys, size_t keys_len, const uint8_t *archi
 uint32_t archive_back_to_mark(const uint8_t *keys, size_t keys_len, const uint8_t *archive, size_t archive_len,
                               uint8_t *marks, size_t marks_len, const uint8_t *name, size_t name_len,
                               uint8_t *out, size_t out_len, size_t *length);
+
+/* Gives the longest history line: a history text over versions 1 to n, from 1 to 999, than which no set of these numbers
+ * has a longer one. A strip of *length bytes takes every history of an archive of n versions. Of the texts that tie, the
+ * result is that of runs of two from n downwards, with gaps of one: 2-3,5-6 for 6, 1,3-4,6-7 for 7, 1-2,4-5,7-8 for 8.
+ * Returns 0, 11 or 14. */
+uint32_t archive_longest_history(size_t n, uint8_t *out, size_t out_len, size_t *length);
 
 #ifdef __cplusplus
 }

@@ -1,5 +1,5 @@
-/* Document 01's record of one station, through the C entries, and document 02's marks and vacant versions on it: each
- * step says what it does and what came back. Exit status 1 if a number, a length, a version, a result, the rest of an
+/* Document 01's record of one station, through the C entries, document 02's marks and vacant versions on it, and its
+ * longest history line: each step says what it does and what came back. Exit status 1 if a number, a length, a version, a result, the rest of an
  * output or the table of marks is not what the papers say. */
 #include "station_archive.h"
 
@@ -199,6 +199,34 @@ static void out_of_commission(void) {
     history("history of a station never lit", "/station", "");
 }
 
+/* The text that is given as the longest over versions 1 to n: runs of two from n downwards, with gaps of one. */
+static const char *longest_line(size_t n) {
+    static char line[ARCHIVE_LENGTH_HISTORY + 1];
+    size_t at = 0;
+    line[0] = '\0';
+    if (n % 3 != 0) at += (size_t)snprintf(line, sizeof line, n % 3 == 1 ? "1" : "1-2");
+    for (size_t last = n % 3 + 3; last <= n; last += 3) {
+        at += (size_t)snprintf(line + at, sizeof line - at, "%s%zu-%zu", at == 0 ? "" : ",", last - 1, last);
+    }
+    return line;
+}
+
+static void longest(const char *step, size_t n, size_t out_len, uint32_t number, const char *text) {
+    lend();
+    told(step, archive_longest_history(n, out, out_len, &length), number, text);
+}
+
+/* A strip that takes any history, over as many versions as the record has and over 999. */
+static void longest_lines(void) {
+    longest("longest history of 3 versions", 3, sizeof out, ARCHIVE_DONE, "2-3");
+    longest("longest history of 5", 5, sizeof out, ARCHIVE_DONE, "1-2,4-5");
+    longest("the same, the output one byte short", 5, strlen("1-2,4-5") - 1, ARCHIVE_OUTPUT_SHORT, "");
+    longest("longest history of 999", 999, ARCHIVE_LENGTH_HISTORY, ARCHIVE_DONE, longest_line(999));
+    longest("the same, the output one byte short", 999, ARCHIVE_LENGTH_HISTORY - 1, ARCHIVE_OUTPUT_SHORT, "");
+    longest("longest history of none", 0, sizeof out, ARCHIVE_VERSION, "");
+    longest("longest history of 1,000", 1000, sizeof out, ARCHIVE_VERSION, "");
+}
+
 /* The key list, the same with one of its LFs missing, and an output one byte short. */
 static void keys_and_short_output(void) {
     lend();
@@ -228,6 +256,7 @@ int main(void) {
     add("P10 add a lamp with no pos", "<station><lamp><type>A</type></lamp></station>", ARCHIVE_KEY, "");
     named_versions();
     out_of_commission();
+    longest_lines();
     printf("%d steps, %d not as the papers say\n", steps, wrong);
     return wrong != 0;
 }

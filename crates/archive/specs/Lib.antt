@@ -14,5 +14,6 @@ pub mod FewCells
 pub mod Entries
 pub mod Tables
 pub mod HistoryCall
+pub mod LongestCall
 pub mod AddCall
 pub mod Runs

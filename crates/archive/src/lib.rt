@@ -5,6 +5,7 @@ pub mod by_value;
 pub mod check_keys;
 pub mod found;
 pub mod history;
+pub mod longest;
 pub mod mark;
 pub mod opened;
 mod received;

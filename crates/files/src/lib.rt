@@ -172,7 +172,9 @@ pub fn say_refusal(number: u32) {
         8 => say(b": a key child missing, repeated or illegal\n"),
         9 => say(b": two siblings with one name and key\n"),
         10 => say(b": archive not legal\n"),
-        11 => say(b": i not in 1 to n; or adding at n = 999\n"),
+        11 => say(
+            b": i not in 1 to n; or adding at n = 999; or n of a longest history not in 1 to 999\n",
+        ),
         12 => say(b": address not of this form and list\n"),
         13 => say(b": result over 1,024 nodes or 32,768 bytes\n"),
         14 => say(b": output shorter than the result\n"),

@@ -4,6 +4,7 @@ mod cells;
 
 use archive::by_value::Marked;
 use archive::check_keys::check_keys;
+use archive::longest::longest_in;
 use cells::add_long;
 use cells::add_short;
 use cells::back_long;
@@ -29,6 +30,7 @@ ghost use Rattle.marks.specs.Marks.{tableIn};
 ghost use Rattle.versions.specs.Calls.{checkKeys, found as foundOf, add as addOf, retrieve as retrieveOf, history as historyOf, setMark as setMarkOf, findMark as findMarkOf, stepBack as stepBackOf, stepBackToMark as stepBackToMarkOf};
 ghost use Rattle.archive.specs.Giving.{Told};
 ghost use Rattle.archive.specs.Entries.{ToldTable, ToldFound, bytesLeft};
+ghost use Rattle.archive.specs.LongestCall.{LongestTold};
 
 // The work cells of an entry.
 const CELLS: usize = 16384;
@@ -246,4 +248,14 @@ pub extern "C" fn archive_back_to_mark(
     let m = named_long(keys, archive, t, name, out);
     *length = m.length;
     put_back(m, marks)
+}
+
+// Gives a history text over versions 1 to n than which no set of these numbers has a longer one.
+#[no_mangle]
+pub extern "C" fn archive_longest_history(n: usize, out: &mut [u8], length: &mut usize) -> u32
+    ensures { λ r. ⌜ LongestTold n (now (out .entry)) r (now (length .exit)) (now (out .exit)) ⌝ }
+{
+    let answer = longest_in(n, out);
+    *length = answer.length;
+    answer.number
 }

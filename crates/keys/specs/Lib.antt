@@ -63,6 +63,7 @@ pub mod Arrange
 pub mod Named
 pub mod AddressText
 pub mod AddressRead
+pub mod RefusedRows
 pub mod AddressScan
 pub mod AddressCuts
 pub mod AddressConditions

@@ -12,6 +12,7 @@ use archive::by_value::step_back_to_mark;
 use archive::check_keys::check_keys;
 use archive::found::found;
 use archive::history::give_history;
+use archive::longest::longest_history;
 use archive::retrieve::retrieve;
 use files::within;
 use marks::Table;
@@ -83,6 +84,13 @@ pub fn gives_history(
 ) {
     let n = within(room, out);
     let answer = give_history(keys, archive, address, &mut out[..n], work);
+    line(name, answer, out);
+}
+
+// The longest history line.
+pub fn gives_longest(name: &[u8], of: usize, room: usize, out: &mut [u8], work: &mut [u32]) {
+    let n = within(room, out);
+    let answer = longest_history(of, &mut out[..n], work);
     line(name, answer, out);
 }
 

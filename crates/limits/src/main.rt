@@ -1,6 +1,7 @@
 // The limits of documents 01 and 02 and each refusal, run. The second implementation (tests/reference, src/bin/limits.rs) runs the same cases: its lines are the stored ones.
 mod calls;
 mod line;
+mod longest;
 mod mark;
 mod output;
 mod refusal;
@@ -34,4 +35,5 @@ fn main() {
     size::archive_nodes(keys, &mut text, &mut a, &mut b, &mut work);
     mark::marks(keys, &mut a, &mut work);
     vacant::vacancies(keys, &mut text, &mut a, &mut work);
+    longest::lines(keys, &mut text, &mut a, &mut work);
 }

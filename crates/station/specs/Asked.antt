@@ -6,11 +6,11 @@ use lib.ListN.{length, drop}
 use Rattle.xml.specs.Bytes.{Bytes}
 use Rattle.keys.specs.Result.{Result, refused, ok, _>>=_, _>>_}
 use Rattle.keys.specs.KeyList.{keyList}
-use Rattle.versions.specs.Calls.{Answer, answer, room, atMost, checkKeys, found, add, retrieve, history, outAfter}
+use Rattle.versions.specs.Calls.{Answer, answer, room, atMost, checkKeys, found, add, retrieve, history, longestHistory, outAfter}
 use Rattle.archive.specs.CheckLaws.{Checks}
 use Rattle.archive.specs.Giving.{Ends}
 use Rattle.station.specs.declared.words.Call.{Call}
-use Rattle.station.specs.declared.words.Call.the-variants.{Check, Found, Add, Retrieve, History}
+use Rattle.station.specs.declared.words.Call.the-variants.{Check, Found, Add, Retrieve, History, Longest}
 
 -- the answer of each call, with an output of `out` bytes and `work` cells
 abbrev pub asked : Call → (keys archive text : List ℕ) (i out work : ℕ) → Answer
@@ -19,6 +19,7 @@ asked Found keys archive text i out work = found keys text out work
 asked Add keys archive text i out work = add keys text archive out work
 asked Retrieve keys archive text i out work = retrieve keys archive i out work
 asked History keys archive text i out work = history keys archive text out work
+asked Longest keys archive text i out work = longestHistory i out work
 
 -- ---- checking a key list gives no bytes
 quiet-then : (r : Result (Unit {0})) (x : Result Bytes) → answer x .bytes ≡ [] → answer (r >> x) .bytes ≡ []

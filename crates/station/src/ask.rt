@@ -11,6 +11,7 @@ use archive::by_value::step_back_to_mark;
 use archive::check_keys::check_keys;
 use archive::found::found;
 use archive::history::give_history;
+use archive::longest::longest_history;
 use archive::retrieve::retrieve;
 use marks::Table;
 use marks::change::Found;
@@ -39,6 +40,7 @@ pub fn ask(
         Call::Add => add_version(keys, archive, text, out, work),
         Call::Retrieve => retrieve(keys, archive, i, out, work),
         Call::History => give_history(keys, archive, text, out, work),
+        Call::Longest => longest_history(i, out, work),
     }
 }
 

@@ -21,6 +21,7 @@ use words::Order;
 use words::archive_word;
 use words::file_word;
 use words::index_word;
+use words::keys_word;
 use words::marked_index_word;
 use words::name_start;
 use words::name_word;
@@ -190,7 +191,7 @@ fn run(
     }
 }
 
-// Reads the key list, and asks.
+// Reads the key list, where one is taken, and asks.
 fn start(
     order: Order,
     keys: &mut [u8],
@@ -199,7 +200,7 @@ fn start(
     out: &mut [u8],
     work: &mut [u32],
 ) {
-    let list = file_word(2, keys);
+    let list = keys_word(order, keys);
     if list.done {
         let n = list.length;
         run(order, &keys[..n], archive, text, out, work);

@@ -15,6 +15,7 @@ pub enum Call {
     Add,
     Retrieve,
     History,
+    Longest,
 }
 
 // What is asked over a table of marks: one of the calls, or the list of its marks.
@@ -45,6 +46,7 @@ pub fn usage() {
     say(b"       station marks KEYS ARCHIVE MARKS\n");
     say(b"       station back KEYS ARCHIVE MARKS I\n");
     say(b"       station back KEYS ARCHIVE MARKS @NAME\n");
+    say(b"       station longest N\n");
 }
 
 // The call without a table that a first word gives, of so many words in all, the program's name among them.
@@ -52,6 +54,9 @@ fn plain_order(word: &[u8], count: usize) -> Order {
     if count == 3 {
         if same(word, b"check") {
             return Order::Plain(Call::Check);
+        }
+        if same(word, b"longest") {
+            return Order::Plain(Call::Longest);
         }
     }
     if count == 4 {
@@ -133,6 +138,29 @@ pub fn file_word(i: usize, buf: &mut [u8]) -> Read
         };
     }
     read_file(b"station: ", &name[..n], buf)
+}
+
+// Reads the key list, of a call that takes one.
+fn plain_keys_word(call: Call, buf: &mut [u8]) -> Read
+    ensures { λ r. ⌜ Counts (r .length) (now (buf .exit)) ⌝ }
+{
+    match call {
+        Call::Longest => Read {
+            done: true,
+            length: 0,
+        },
+        _ => file_word(2, buf),
+    }
+}
+
+// Reads the key list, of an order that takes one.
+pub fn keys_word(order: Order, buf: &mut [u8]) -> Read
+    ensures { λ r. ⌜ Counts (r .length) (now (buf .exit)) ⌝ }
+{
+    match order {
+        Order::Plain(call) => plain_keys_word(call, buf),
+        _ => file_word(2, buf),
+    }
 }
 
 // Reads the archive, of a call that takes one.
@@ -227,6 +255,7 @@ fn number_word(i: usize) -> Numeral {
 pub fn index_word(call: Call) -> Numeral {
     match call {
         Call::Retrieve => number_word(4),
+        Call::Longest => number_word(2),
         _ => Numeral {
             valid: true,
             value: 0,

@@ -24,5 +24,7 @@ pub mod Write
 pub mod Written
 pub mod Change
 pub mod Cut
-pub mod Short
+pub mod Longest
+pub mod Lengths
+pub mod LongestLaws
 pub mod Samples

@@ -25,7 +25,7 @@ use Rattle.timestamp.specs.Sound.{accepted-runs}
 -- ---- the runs of a set are its runs
 module _ (s : ℕ → Bool) where
   asc-listed : Asc 0 (runs 1 (listed 999 s))
-  asc-listed = asc-runs 0 1 (listed 999 s) (omega arith) (omega (arith, listed-length 999 s))
+  asc-listed = asc-runs 1000 0 1 (listed 999 s) (omega arith) (omega (arith, listed-length 999 s))
 
   pub text-runs : textOf s ≡ text (runs 1 (listed 999 s))
   unfolding textOf writeTimes

@@ -14,10 +14,14 @@ use Rattle.xml.specs.Truth.{not-so, bool-by, or-first}
 use Rattle.timestamp.specs.Times.{Times, upFrom, extend, runs}
 use Rattle.timestamp.specs.TimesLaws.{inRun, in-run, run-in}
 
--- each run begins past p and ends at 999 or before, and leaves a gap to the next
+-- each run begins past p and ends before m, and leaves a gap to the next
+abbrev pub AscTo : ℕ → ℕ → List (ℕ × ℕ) → Type 0
+AscTo m p [] = Unit {0}
+AscTo m p (r ∷ rs) = (p < r .0) × (r .0 ≤ r .1) × (r .1 < m) × AscTo m (r .1 + 1) rs
+
+-- likewise, at 999 or before
 abbrev pub Asc : ℕ → List (ℕ × ℕ) → Type 0
-Asc p [] = Unit {0}
-Asc p (r ∷ rs) = (p < r .0) × (r .0 ≤ r .1) × (r .1 < 1000) × Asc (r .1 + 1) rs
+Asc = AscTo 1000
 
 -- the set that runs hold
 abbrev pub inRuns : List (ℕ × ℕ) → ℕ → Bool
@@ -66,19 +70,19 @@ pub asc-weaken : (p q : ℕ) (rs : List (ℕ × ℕ)) → p ≤ q → Asc q rs �
 asc-weaken p q [] h a = tt
 asc-weaken p q (r ∷ rs) h a = (omega (arith, a .0), a .1, a .2, a .3)
 
-asc-extend : (p i : ℕ) (rs : List (ℕ × ℕ)) → p < i → i < 1000 → Asc i rs → Asc p (extend i rs)
+asc-extend : (m p i : ℕ) (rs : List (ℕ × ℕ)) → p < i → i < m → AscTo m i rs → AscTo m p (extend i rs)
 unfolding extend
-asc-extend p i [] l h a = (l, omega arith, h, tt)
-asc-extend p i (r ∷ rs) l h a =
-    bool-by (λ x. eqb (r .0) (suc i) ≡ x → Asc p (elim x as (λ _. List (ℕ × ℕ)) [ true ↦ (i, r .1) ∷ rs | false ↦ (i, i) ∷ r ∷ rs ])) (eqb (r .0) (suc i))
+asc-extend m p i [] l h a = (l, omega arith, h, tt)
+asc-extend m p i (r ∷ rs) l h a =
+    bool-by (λ x. eqb (r .0) (suc i) ≡ x → AscTo m p (elim x as (λ _. List (ℕ × ℕ)) [ true ↦ (i, r .1) ∷ rs | false ↦ (i, i) ∷ r ∷ rs ])) (eqb (r .0) (suc i))
     (λ _ e. (l, omega (arith, a .0, a .1), a .2, a .3))
     (λ _ e. (l, omega arith, h, ((let z = eqb-false (r .0) (suc i) e in omega (arith, a .0, z)), a .1, a .2, a .3))) refl
 
-pub asc-runs : (p i : ℕ) (t : Times) → p < i → i + length t ≤ 1000 → Asc p (runs i t)
+pub asc-runs : (m p i : ℕ) (t : Times) → p < i → i + length t ≤ m → AscTo m p (runs i t)
 unfolding runs
-asc-runs p i [] l h = tt
-asc-runs p i (false ∷ t) l h = asc-runs p (suc i) t (omega arith) (omega arith)
-asc-runs p i (true ∷ t) l h = asc-extend p i (runs (suc i) t) l (omega arith) (asc-runs i (suc i) t (omega arith) (omega arith))
+asc-runs m p i [] l h = tt
+asc-runs m p i (false ∷ t) l h = asc-runs m p (suc i) t (omega arith) (omega arith)
+asc-runs m p i (true ∷ t) l h = asc-extend m p i (runs (suc i) t) l (omega arith) (asc-runs m i (suc i) t (omega arith) (omega arith))
 
 extend-far : (i : ℕ) (rs : List (ℕ × ℕ)) → Asc (suc i) rs → extend i rs ≡ (i, i) ∷ rs
 unfolding extend
@@ -109,7 +113,7 @@ module _ (s : ℕ → Bool) where
 
   rest-asc : (p i : ℕ) → p < i → i ≤ 1000 → Asc p (rest s i)
   unfolding rest
-  rest-asc p i l h = asc-runs p i (map s (upFrom i (1000 - i))) l (rw (length-from s i (1000 - i)) (omega arith))
+  rest-asc p i l h = asc-runs 1000 p i (map s (upFrom i (1000 - i))) l (rw (length-from s i (1000 - i)) (omega arith))
 
   -- numbers that are no members are passed
   pub rest-skip : (d i : ℕ) → i + d ≤ 1000 → ((u : ℕ) → i ≤ u → u < i + d → s u ≡ false) → rest s i ≡ rest s (i + d)

@@ -58,6 +58,12 @@ pub part-short : (b : Bool) (lo hi : ℕ) → 1 ≤ lo → lo ≤ hi → hi < 10
 part-short true lo hi x y h = let d = run-short lo hi x y h in (omega arith, omega (arith, d .1))
 part-short false lo hi x y h = let d = run-short lo hi x y h in (d .0, omega (arith, d .1))
 
+-- of two numbers of three digits
+pub part-three : (lo hi : ℕ) {a b c d e f : ℕ} → 100 ≤ lo → lo < hi → hi < 1000 → a ≡ 48 + lo / 100 → b ≡ 48 + lo / 10 % 10 → c ≡ 48 + lo % 10
+    → d ≡ 48 + hi / 100 → e ≡ 48 + hi / 10 % 10 → f ≡ 48 + hi % 10 → part true (lo, hi) ≡ 44 ∷ a ∷ b ∷ c ∷ 45 ∷ d ∷ e ∷ f ∷ []
+part-three lo hi l m h p q r s t u =
+    rw (p, q, r, s, t, u) (rw (run-long lo hi (λ z. omega arith), decimal-three lo l (omega arith), decimal-three hi (omega arith) h) refl)
+
 -- ---- runs after each other
 unfoldable pub following : Bool → List (ℕ × ℕ) → Bytes
 following b [] = []

@@ -15,7 +15,7 @@ use Rattle.xml.specs.TapeLaws.{bytesAt, opening, closing, inner-node, length-wr
 use Rattle.timestamp.specs.Times.{Times, sameTimes, writeTimes, always}
 use Rattle.timestamp.specs.Set.{sameSet, isNone, upTo}
 use Rattle.timestamp.specs.Listed.{listed, textOf, Only, same-listed, text-listed, text-up-to, listed-up-to}
-use Rattle.timestamp.specs.Short.{text-short}
+use Rattle.timestamp.specs.LongestLaws.{text-short}
 use Rattle.versions.specs.Walk.{timesIn, ever, backIn, backForest, insideOf}
 use Rattle.versions.specs.ListedLaws.{ever-listed}
 use Rattle.versions.specs.Sizes.{write-join}

@@ -11,6 +11,7 @@ use Rattle.keys.specs.KeyList.{KeyList, keyList}
 use Rattle.keys.specs.Version.{version}
 use Rattle.keys.specs.Address.{address, holds}
 use Rattle.timestamp.specs.Times.{writeTimes}
+use Rattle.timestamp.specs.Longest.{longest, longest-compute}
 use Rattle.marks.specs.declared.Mark.{Mark}
 use Rattle.marks.specs.Marks.{Named, entries, marksIn, legalName, find, upTo, setting, finding, tableBytes, marks-compute}
 use Rattle.versions.specs.Archive.{archiveOf, archiveText, archive-compute}
@@ -185,6 +186,14 @@ stepBackToMark keys archive table name out work = marked table (do
   k ← find name ks
   earlier K vs ks (k .version) out)
 
+-- ---- the longest history line (Q-14)
+-- "Given n from 1 to 999, a call writes a history text over versions 1 to n"; "Another n is 11."
+unfoldable pub longestHistory : (n out work : ℕ) → Answer
+longestHistory n out work = answer (do
+  room work
+  refuse r11 (not (leb 1 n && leb n 999))
+  give out (writeTimes (longest n)))
+
 -- ---- what a call leaves behind
 -- "the output's first n bytes are the result, the rest keep their values"; "With each [refusal]: .. output untouched"
 unfoldable pub outAfter : Answer → Bytes → Bytes
@@ -199,5 +208,5 @@ unfoldable pub tableLeft : Marked → Bytes → Bytes
 tableLeft m s = elim (eqb (m .answer .number) 0) [ true ↦ tableBytes (m .table) | false ↦ s ]
 
 unfoldable pub calls-compute : Unit {0}
-unfolding archive-compute marks-compute numberOf answer room atMost versionAt versionsTo notFull storable give checkKeys found add retrieve history marked foundMark setMark findMark earlier stepBack stepBackToMark outAfter workAfter tableLeft
+unfolding archive-compute marks-compute longest-compute numberOf answer room atMost versionAt versionsTo notFull storable give checkKeys found add retrieve history marked foundMark setMark findMark earlier stepBack stepBackToMark longestHistory outAfter workAfter tableLeft
 calls-compute = tt

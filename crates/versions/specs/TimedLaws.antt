@@ -17,7 +17,7 @@ use Rattle.timestamp.specs.Times.{Times, always, onlyAfter, writeTimes}
 use Rattle.timestamp.specs.Set.{setOf, emptySet, adding, upTo, subset}
 use Rattle.timestamp.specs.Tests.{subset-tells}
 use Rattle.timestamp.specs.Listed.{listed, Only, textOf, listed-adding, listed-newest, listed-up-to, only-adding, only-none, only-up-to, text-listed, text-up-to}
-use Rattle.timestamp.specs.Short.{text-short}
+use Rattle.timestamp.specs.LongestLaws.{text-short}
 use Rattle.timestamp.specs.Parse.{Outcome, refused, accepted, parsed}
 use Rattle.timestamp.specs.Parses.{text-parse}
 use Rattle.timestamp.specs.Place.{IsSetTo}

@@ -2,43 +2,20 @@
 use Prim.Native.Nat.{ℕ, zero, suc, _+_, _≤_}
 use native.Mathlib.Omega.{arith}
 use mathlib.Core.Path.{_≡_, refl, ap, subst}
-use mathlib.Core.Bool.{Bool, true, false, _&&_}
+use mathlib.Core.Bool.{Bool, true, false}
 use mathlib.Core.List.{List, [], _∷_, _++_, map}
-use borrow.Author.Tests.{eqb-true, eqb-false, leb-true, ne-eqb}
-use lib.Dec.{eqb, leb}
+use borrow.Author.Tests.{eqb-true, eqb-false, ne-eqb}
+use lib.Dec.{eqb}
 use lib.ListN.{length, take, length-append}
 use Rattle.model.specs.Gather.{All}
 use Rattle.xml.specs.Bytes.{Bytes, bytes, joinBy}
-use Rattle.xml.specs.Truth.{bool-by, and-left, and-right}
-use Rattle.timestamp.specs.Times.{Times, extend, runs, decimal, writeRun, writeTimes, times-compute}
-
--- ---- a smaller number has no more digits: one computed test of neighbours up to 999
-chain : (ℕ → ℕ) → ℕ → ℕ → Bool
-chain f i zero = true
-chain f i (suc k) = leb (f i) (f (suc i)) && chain f (suc i) k
-
-chain-up : (f : ℕ → ℕ) (i k a b : ℕ) → chain f i k ≡ true → i ≤ a → a ≤ b → b ≤ i + k → f a ≤ f b
-unfolding chain
-chain-up f i zero a b e l m u = let z : a ≡ b = omega arith in rw z (omega arith)
-chain-up f i (suc k) a b e l m u =
-    let here : f i ≤ f (suc i) = leb-true (f i) (f (suc i)) (and-left (leb (f i) (f (suc i))) _ e) in
-    bool-by (λ _. f a ≤ f b) (eqb i a)
-    (λ c. bool-by (λ _. f a ≤ f b) (eqb a b)
-    (λ d. rw (eqb-true a b d) (omega arith))
-    (λ d. let z : f (suc i) ≤ f b = chain-up f (suc i) k (suc i) b (and-right (leb (f i) (f (suc i))) _ e) (omega arith) (omega (arith, eqb-true i a c, eqb-false a b d)) (omega arith) in
-    rw (← (eqb-true i a c)) (omega arith)))
-    (λ c. chain-up f (suc i) k a b (and-right (leb (f i) (f (suc i))) _ e) (omega (arith, eqb-false i a c)) m (omega arith))
-
-digits-chain : chain (λ n. length (decimal n)) 0 999 ≡ true
-unfolding times-compute chain
-digits-chain = refl
-
-digits-up : (a b : ℕ) → a ≤ b → b ≤ 999 → length (decimal a) ≤ length (decimal b)
-digits-up a b m u = chain-up (λ n. length (decimal n)) 0 999 a b digits-chain (omega arith) m (omega arith)
+use Rattle.xml.specs.Truth.{bool-by}
+use Rattle.timestamp.specs.Times.{Times, extend, runs, decimal, writeRun, writeTimes}
+use Rattle.timestamp.specs.Lengths.{digitsOf, digits-up}
 
 -- ---- runs
 run-up : (a b c : ℕ) → a ≤ b → b ≤ c → c ≤ 999 → length (writeRun (a, b)) ≤ length (writeRun (a, c))
-unfolding writeRun
+unfolding writeRun digitsOf
 run-up a b c l m u =
     bool-by (λ x. (eqb a b ≡ x) → length {A = ℕ} (elim x as (λ _. Bytes) [ true ↦ decimal a | false ↦ decimal a ++ bytes "-" ++ decimal b ]) ≤ length (writeRun (a, c))) (eqb a b)
     (λ _ d. bool-by (λ x. length (decimal a) ≤ length {A = ℕ} (elim x as (λ _. Bytes) [ true ↦ decimal a | false ↦ decimal a ++ bytes "-" ++ decimal c ])) (eqb a c)

@@ -20,7 +20,7 @@ use Rattle.timestamp.specs.Set.{emptySet, upTo, cutAt, sameSet, isNone}
 use Rattle.timestamp.specs.Tests.{same-tells, same-told}
 use Rattle.timestamp.specs.Listed.{listed, textOf, Only, only-cut, only-more, only-up-to, listed-inj, listed-cong, listed-up-to, text-inj, text-none}
 use Rattle.timestamp.specs.Parses.{text-parse, text-some}
-use Rattle.timestamp.specs.Short.{text-short}
+use Rattle.timestamp.specs.LongestLaws.{text-short}
 use Rattle.timestamp.specs.Write.{decimal-short}
 use Rattle.timestamp.specs.Place.{IsSet}
 use Rattle.timestamp.specs.Change.{Changes, tailText}

@@ -1,4 +1,5 @@
-//! A plain implementation of document 01's six calls and document 02's three over marks, and what the benchmark measures.
+//! A plain implementation of document 01's six calls, document 02's three over marks and its longest history, and what the
+//! benchmark measures.
 
 pub mod plain;
 pub mod rounds;

@@ -76,12 +76,24 @@ fn row<'a>(workload: &'a Workload, call: Call<'a>, time: Duration) -> Row<'a> {
     Row { workload: workload.name, call: CALLS[call.index()], library, plain, libxml2: times.next(), stack }
 }
 
+/// What a call is lent to write to, and the bytes that its table has each time. Each lies at one place of a page, whatever was
+/// allocated before: a copy between places whose distance is nearly a multiple of 4,096 bytes takes longer.
+#[repr(C, align(4096))]
+struct Lent {
+    fresh: [u8; 1_024],
+    table: [u8; 1_024],
+    out: [u8; OUTPUT],
+}
+
 fn caller<'a>(station: &'static dyn Station, workload: &'a Workload, call: Call<'a>) -> Box<dyn FnMut() + 'a> {
-    let (mut table, mut out) = (call.table().to_vec(), vec![0; OUTPUT]);
+    let length = call.table().len();
+    let mut lent = Box::new(Lent { fresh: [0; 1_024], table: [0; 1_024], out: [0; OUTPUT] });
+    lent.fresh[..length].copy_from_slice(call.table());
     Box::new(move || {
+        let Lent { fresh, table, out } = &mut *lent;
         // A call may change the table: each is lent the same one.
-        table.copy_from_slice(call.table());
-        black_box(station.call(black_box(&workload.keys), black_box(call), black_box(&mut table), black_box(&mut out)));
+        table[..length].copy_from_slice(&fresh[..length]);
+        black_box(station.call(black_box(&workload.keys), black_box(call), black_box(&mut table[..length]), black_box(out)));
     })
 }
 
@@ -89,7 +101,7 @@ fn caller<'a>(station: &'static dyn Station, workload: &'a Workload, call: Call<
 #[cfg(feature = "libxml2")]
 fn libxml2_reader<'a>(call: Call<'a>) -> Option<Box<dyn FnMut() + 'a>> {
     let texts: Vec<&[u8]> = match call {
-        Call::CheckKeys => return None,
+        Call::CheckKeys | Call::LongestHistory { .. } => return None,
         Call::Found { version } => vec![version],
         Call::Add { archive, version } => vec![archive, version],
         Call::Retrieve { archive, .. } | Call::History { archive, .. } | Call::Back { archive, .. } => vec![archive],

@@ -24,6 +24,7 @@ impl Station for Plain {
                 let (number, version) = plain::find_mark(keys, archive, table, name);
                 return Returned { number, length: 0, version };
             }
+            Call::LongestHistory { n } => plain::longest_history(n, out),
         })
     }
 }

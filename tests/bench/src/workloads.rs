@@ -31,8 +31,8 @@ const NEW: &[u8] = b"new_lens";
 
 impl Workload {
     /// The calls: the last version founds, and is added; it is retrieved; one step back, by number
-    /// and by name; a mark of version n is set, the last one is found.
-    pub fn calls(&self) -> [Call<'_>; 9] {
+    /// and by name; a mark of version n is set, the last one is found; the longest history over n versions.
+    pub fn calls(&self) -> [Call<'_>; 10] {
         let archive = &self.archive;
         [
             Call::CheckKeys,
@@ -44,6 +44,7 @@ impl Workload {
             Call::BackToMark { archive, table: &self.marked, name: LAST },
             Call::SetMark { archive, table: &self.room, name: NEW, i: self.n },
             Call::FindMark { archive, table: &self.marked, name: LAST },
+            Call::LongestHistory { n: self.n },
         ]
     }
 

@@ -53,6 +53,23 @@ fn the_record() {
     assert_eq!(&out[..13], br#"<T t="1"></T>"#);
 }
 
+/// The longest history of few versions and of the most, and no more than it is written.
+#[test]
+fn the_longest_histories() {
+    for (n, text) in [(1, "1"), (2, "1-2"), (3, "2-3"), (6, "2-3,5-6"), (7, "1,3-4,6-7"), (8, "1-2,4-5,7-8"), (10, "1,3-4,6-7,9-10")] {
+        let mut out = [b'x'; 20];
+        assert_eq!(plain::longest_history(n, &mut out), (0, text.len()));
+        assert_eq!(out[..text.len()], *text.as_bytes());
+        assert_eq!(out[text.len()..], [b'x'; 20][text.len()..]);
+        assert_eq!(plain::longest_history(n, &mut out[..text.len() - 1]), (14, 0));
+    }
+    assert_eq!(plain::longest_history(999, &mut [0; 2_591]), (0, 2_591));
+    assert_eq!(plain::longest_history(999, &mut [0; 2_590]), (14, 0));
+    for n in [0, 1_000, 65_537, (1 << 32) + 5, usize::MAX] {
+        assert_eq!(plain::longest_history(n, &mut [0; 3_000]), (11, 0), "{n}");
+    }
+}
+
 /// The workloads are what they are said to be, and legal for the reference too.
 #[test]
 fn the_workloads() {

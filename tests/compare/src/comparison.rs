@@ -198,17 +198,17 @@ impl<'a> Comparison<'a> {
     /// Cases by call and by number, and the differences.
     pub fn summary(&self) -> String {
         let mut told = String::from("number     ");
-        CALLS.iter().for_each(|call| told += &format!("{call:>13}"));
-        told += &format!("{:>13}\n", "all");
+        CALLS.iter().for_each(|call| told += &format!("{call:>16}"));
+        told += &format!("{:>16}\n", "all");
         for number in 0..NUMBERS {
             let row: Vec<u64> = self.counts.iter().map(|counts| counts[number]).collect();
             told += &format!("{number:>6}     ");
-            row.iter().for_each(|count| told += &format!("{count:>13}"));
-            told += &format!("{:>13}\n", row.iter().sum::<u64>());
+            row.iter().for_each(|count| told += &format!("{count:>16}"));
+            told += &format!("{:>16}\n", row.iter().sum::<u64>());
         }
         told += "   all     ";
-        self.counts.iter().for_each(|counts| told += &format!("{:>13}", counts.iter().sum::<u64>()));
-        told += &format!("{:>13}\n", self.cases());
+        self.counts.iter().for_each(|counts| told += &format!("{:>16}", counts.iter().sum::<u64>()));
+        told += &format!("{:>16}\n", self.cases());
         told += &format!("results measured against a shelf (demand 3): {}\n", self.shelf_checks);
         if self.differences.is_empty() {
             told += "no difference\n";
@@ -227,7 +227,7 @@ impl<'a> Comparison<'a> {
 fn size(keys: &[u8], call: Call) -> usize {
     keys.len()
         + match call {
-            Call::CheckKeys => 0,
+            Call::CheckKeys | Call::LongestHistory { .. } => 0,
             Call::Found { version } => version.len(),
             Call::Add { archive, version } => archive.len() + version.len(),
             Call::Retrieve { archive, .. } => archive.len(),
@@ -259,6 +259,8 @@ fn arguments(keys: &[u8], call: Call) -> String {
             line("archive", archive) + &table_line(table) + &line("name", name)
         }
         Call::SetMark { archive, table, name, i } => line("archive", archive) + &table_line(table) + &line("name", name) + &number(i),
+        // It takes no key list.
+        Call::LongestHistory { n } => return format!("  n:        {n}\n"),
     }
 }
 

@@ -1,11 +1,12 @@
 //! The comparison finds planted faults: those of document 01's "Held to by each call", 3, those of
-//! an output, length or number that is not as promised, and those of marks and of vacant versions
-//! (document 02, Q-2 and Q-6).
+//! an output, length or number that is not as promised, and those of marks, of vacant versions and of
+//! the longest history (document 02, Q-2, Q-6 and Q-14).
 
 use crate::comparison::Comparison;
 use crate::round;
 use crate::station::{Call, Reference, Returned, Station};
 use reference::marks::{self, entries, Mark, TABLE_BYTES, UNUSED};
+use reference::timestamp::{self, longest};
 use reference::xml::is_white_space;
 use reference::WORK_CELLS;
 
@@ -52,6 +53,15 @@ enum Fault {
     EmptySetWritten,
     TakesOuterSetRepeated,
     TakesEmptySet,
+    LongestOfSingles,
+    LongestLosesAByte,
+    LongestPastN,
+    LongestUpwards,
+    LongestOf1000,
+    LongestOfNone,
+    LongestOf16Bits,
+    LongestOf32Bits,
+    LongestCut,
 }
 
 struct Faulty(Fault);
@@ -112,6 +122,11 @@ fn root_in_t(archive: &[u8]) -> Option<(&[u8], &[u8], &[u8])> {
     Some((all, own, root))
 }
 
+/// The right text of the longest history; no bytes if n is refused.
+fn longest_text(n: usize) -> Vec<u8> {
+    reference::longest_history(n, usize::MAX, WORK_CELLS).bytes
+}
+
 fn is_legal(keys: &[u8], archive: &[u8]) -> bool {
     reference::retrieve(keys, archive, 1, usize::MAX, WORK_CELLS).number == 0
 }
@@ -125,7 +140,11 @@ impl Station for Faulty {
         let before = out.to_vec();
         let right = Reference.call(keys, call, table, out);
         let Returned { number, length, .. } = right;
-        if let Some(wrong) = self.wrong_result(keys, call, number, &out[..length]) {
+        let wrong = match call {
+            Call::LongestHistory { n } => self.wrong_longest(n, out.len()),
+            _ => self.wrong_result(keys, call, number, &out[..length]),
+        };
+        if let Some(wrong) = wrong {
             out.copy_from_slice(&before);
             return put(&wrong, out);
         }
@@ -210,6 +229,24 @@ impl Faulty {
                 let (all, own, _) = root_in_t(archive)?;
                 (own.is_empty() && is_legal(keys, &in_t(all, b""))).then(Vec::new)
             }
+            _ => None,
+        }
+    }
+
+    /// The faults of the longest history: the text that is given in place of the right one, or of a refusal.
+    fn wrong_longest(&self, n: usize, out_len: usize) -> Option<Vec<u8>> {
+        let legal = (1..=999).contains(&n);
+        match self.0 {
+            Fault::LongestOfSingles if legal => Some(timestamp::text(&(1..=n).step_by(2).collect())),
+            Fault::LongestLosesAByte if legal => longest_text(n).split_last().map(|(_, rest)| rest.to_vec()),
+            Fault::LongestPastN if legal => Some(timestamp::text(&longest(n + 1))),
+            // It ties: runs of two from 1 upwards.
+            Fault::LongestUpwards if legal => Some(timestamp::text(&(1..=n).filter(|number| number % 3 > 0).collect())),
+            Fault::LongestOf1000 if n == 1_000 => Some(timestamp::text(&longest(n))),
+            Fault::LongestOfNone if n == 0 => Some(vec![]),
+            Fault::LongestOf16Bits if n >= 1 << 16 => Some(longest_text(n % (1 << 16))).filter(|text| !text.is_empty()),
+            Fault::LongestOf32Bits if n >= 1 << 32 => Some(longest_text(n % (1 << 32))).filter(|text| !text.is_empty()),
+            Fault::LongestCut if legal => longest_text(n).get(..out_len).map(<[u8]>::to_vec),
             _ => None,
         }
     }
@@ -319,7 +356,8 @@ fn each_fault_is_found() {
         BackLosesOrder, SetsOverHeld, SetsAtTheFront, FindsAnother, FindsWhenRefusing, RefusalTouchesTable, RefusedSetWrites,
         FullBeforeHeld, LongNameIsTwo, NamedBackToN, NamedBackToFirst, TakesShortTable, TakesLaterMarks, ChecksNoTable, TakesNamesTwice,
         TakesBytesPastNames, ElevenBeforeSeventeen, VacantIsFive, OnlyEmptyIsVacant, VacantIsAbsent, RootBareOverGap, OuterIsTheRoots,
-        EmptySetWritten, TakesOuterSetRepeated, TakesEmptySet,
+        EmptySetWritten, TakesOuterSetRepeated, TakesEmptySet, LongestOfSingles, LongestLosesAByte, LongestPastN, LongestUpwards,
+        LongestOf1000, LongestOfNone, LongestOf16Bits, LongestOf32Bits, LongestCut,
     ];
     for fault in faults {
         assert!(is_found(fault), "{fault:?}");

@@ -5,6 +5,7 @@ use crate::marks::{name_of, table, UNUSED};
 use crate::station::Call;
 use reference::marks::{Mark, ENTRY_BYTES, NAME_BYTES, TABLE_BYTES};
 use reference::shelf::Shelf;
+use reference::timestamp::{longest, text};
 
 const STATION: &str = "(/, (station, {}))\n(/station, (light, {}))\n(/station, (lamp, {pos}))\n(/station/lamp, (type, {}))\n(/station/lamp, (hours, {}))\n";
 const KEYS: &str = "(/, (s, {}))\n(/s, (f, {}))\n(/s, (g, {}))\n(/s, (k, {p}))\n(/s/k, (v, {}))\n";
@@ -22,6 +23,7 @@ pub fn run(c: &mut Comparison) {
     marks(c);
     tables(c);
     vacancies(c);
+    longest_histories(c);
 }
 
 fn f(content: &str) -> String {
@@ -645,4 +647,33 @@ fn struck_off_at_the_limit(c: &mut Comparison) {
             add(c, KEYS, archive.as_bytes(), "");
         }
     }
+}
+
+/// The longest history of each number of versions, and of numbers that are none.
+fn longest_histories(c: &mut Comparison) {
+    for n in 0..=1_001 {
+        c.ask_each_output(b"", Call::LongestHistory { n });
+    }
+    // Other numbers, with legal low bits too, or the last of all and so many before it.
+    for high in [1_024, 1 << 16, 1 << 31, 1 << 32, 1 << 63, usize::MAX - 999] {
+        for low in [0, 1, 5, 998, 999] {
+            c.ask_each_output(KEYS.as_bytes(), Call::LongestHistory { n: high + low });
+        }
+    }
+    archive_with_the_longest(c);
+}
+
+/// An archive of 999 versions whose root stands in those of the longest history; the others are vacant.
+fn archive_with_the_longest(c: &mut Comparison) {
+    let keys = "(/, (s, {}))\n";
+    let set = longest(999);
+    let version = |number: usize| if set.contains(&number) { &b"<s></s>"[..] } else { b"" };
+    let mut shelf = Shelf::found(keys.as_bytes(), version(1)).expect("a legal version");
+    (2..=999).for_each(|number| shelf.add(version(number)).expect("a legal version"));
+    let archive = &shelf.archive();
+    // Of 2,591 bytes, with an output of so many and of one less.
+    let call = Call::History { archive, address: b"/s" };
+    let history = c.ask_each_output(keys.as_bytes(), call);
+    c.shelf_gives(keys.as_bytes(), call, &history.bytes, &text(&set));
+    read_all(c, keys, archive, &[1, 2, 3, 998, 999, 1_000], &[]);
 }

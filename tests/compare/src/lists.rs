@@ -20,7 +20,7 @@ struct Standing {
     trees: Vec<Tree>,
 }
 
-/// One round: a random key list, near-legal texts, a list of calls, near-legal archives.
+/// One round: a random key list, near-legal texts, a list of calls, near-legal archives, longest histories.
 pub fn round(c: &mut Comparison, r: &mut Random) {
     match r.below(200) {
         0..=7 => return heavy(c, r),
@@ -44,6 +44,10 @@ pub fn round(c: &mut Comparison, r: &mut Random) {
     }
     for _ in 0..12 {
         near_table(c, r, &keys, &standing);
+    }
+    for _ in 0..4 {
+        let n = any_count(r);
+        c.ask(r, &keys.text, Call::LongestHistory { n });
     }
 }
 
@@ -101,6 +105,17 @@ fn list(c: &mut Comparison, r: &mut Random, keys: &Keys, model: Tree) -> Option<
 /// A number that may not be in 1 to n.
 fn any_number(r: &mut Random, n: usize) -> usize {
     r.choose(&[0, 1, n, n + 1, n + 2, 64, 999, 1_000, 1 << 32, (1 << 32) + 1, usize::MAX])
+}
+
+/// A number of versions: any, one at a border, or one that there can't be, with legal low bits too.
+fn any_count(r: &mut Random) -> usize {
+    let n = 1 + r.below(999);
+    match r.below(12) {
+        0..=2 => r.choose(&[1, 2, 3, 9, 10, 11, 12, 99, 100, 101, 102, 998, 999]),
+        3 => r.choose(&[0, 1_000, 1_001, usize::MAX]),
+        4 | 5 => n + (1 << r.choose(&[10, 16, 32, 63])),
+        _ => n,
+    }
 }
 
 fn add(c: &mut Comparison, r: &mut Random, keys: &Keys, standing: &mut Standing, text: Vec<u8>, tree: Tree) -> u32 {

@@ -3,7 +3,8 @@
 use reference::{Answer, WORK_CELLS};
 
 /// A call with its arguments, besides the key list and the output. A table of marks is its bytes, as
-/// they are lent: 608 if it is of 32 entries.
+/// they are lent: 608 if it is of 32 entries. The longest history takes no key list: whatever is given
+/// as one is not looked at.
 #[derive(Clone, Copy)]
 pub enum Call<'a> {
     CheckKeys,
@@ -15,9 +16,11 @@ pub enum Call<'a> {
     BackToMark { archive: &'a [u8], table: &'a [u8], name: &'a [u8] },
     SetMark { archive: &'a [u8], table: &'a [u8], name: &'a [u8], i: usize },
     FindMark { archive: &'a [u8], table: &'a [u8], name: &'a [u8] },
+    LongestHistory { n: usize },
 }
 
-pub const CALLS: [&str; 9] = ["check_keys", "found", "add", "retrieve", "history", "back", "back_to_mark", "set_mark", "find_mark"];
+pub const CALLS: [&str; 10] =
+    ["check_keys", "found", "add", "retrieve", "history", "back", "back_to_mark", "set_mark", "find_mark", "longest_history"];
 
 impl<'a> Call<'a> {
     pub fn index(&self) -> usize {
@@ -31,6 +34,7 @@ impl<'a> Call<'a> {
             Call::BackToMark { .. } => 6,
             Call::SetMark { .. } => 7,
             Call::FindMark { .. } => 8,
+            Call::LongestHistory { .. } => 9,
         }
     }
 
@@ -98,6 +102,7 @@ pub fn answer(keys: &[u8], call: Call, out_len: usize) -> Expected {
             version = found;
             answer
         }
+        Call::LongestHistory { n } => reference::longest_history(n, out_len, WORK_CELLS),
     };
     Expected { number, bytes, table: lent, version }
 }
@@ -145,6 +150,7 @@ pub mod library {
         fn archive_find_mark(keys: *const u8, keys_len: usize, archive: *const u8, archive_len: usize,
             marks: *const u8, marks_len: usize, name: *const u8, name_len: usize,
             version: *mut usize, length: *mut usize) -> u32;
+        fn archive_longest_history(n: usize, out: *mut u8, out_len: usize, length: *mut usize) -> u32;
     }
 
     pub struct Library;
@@ -185,6 +191,7 @@ pub mod library {
                     Call::FindMark { archive, name, .. } => {
                         archive_find_mark(k, kl, archive.as_ptr(), archive.len(), m, ml, name.as_ptr(), name.len(), v, l)
                     }
+                    Call::LongestHistory { n } => archive_longest_history(n, o, ol, l),
                 }
             };
             Returned { number, length, version }

@@ -1,5 +1,5 @@
-//! The station archive of document 01, with document 02's marks and vacant versions: a
-//! second implementation, by the definitions.
+//! The station archive of document 01, with document 02's marks, vacant versions and
+//! longest history line: a second implementation, by the definitions.
 //!
 //! The archive is computed from the list of versions, never by merging. A text is a legal
 //! archive exactly if it is the archive of the only versions that it can be the archive of.
@@ -133,6 +133,17 @@ pub fn back_to_mark(keys: &[u8], archive: &[u8], table: &mut [u8], name: &[u8], 
         let (keys, versions, marks) = lent_marks(keys, archive, table, work_len)?;
         let i = marks::find(&marks, name)?;
         step_back(&keys, &versions[..i], marks, table, out_len)
+    })
+}
+
+/// Write the longest history text over versions 1 to n; of those that tie, that of `timestamp::longest`.
+pub fn longest_history(n: usize, out_len: usize, work_len: usize) -> Answer {
+    answer(|| {
+        lent(work_len, &[])?;
+        if n < 1 || n > VERSIONS {
+            return Err(11);
+        }
+        into_output(Written { bytes: timestamp::text(&timestamp::longest(n)), nodes: 0 }, out_len)
     })
 }
 

@@ -1,4 +1,4 @@
-//! Timestamps and their text.
+//! Timestamps and their text; the longest text.
 
 use crate::keys::split;
 use crate::VERSIONS;
@@ -17,6 +17,28 @@ pub fn text(set: &Timestamp) -> Vec<u8> {
     }
     let run = |(first, last): (usize, usize)| if first == last { format!("{first}") } else { format!("{first}-{last}") };
     runs.into_iter().map(run).collect::<Vec<String>>().join(",").into_bytes()
+}
+
+/// The set of 1 to n whose text is given as the longest: runs of two from n downwards and gaps of one
+/// between them; at the low end what is left of the numbers 1 and 2.
+pub fn longest(n: usize) -> Timestamp {
+    (1..=n).filter(|number| (n - number) % 3 < 2).collect()
+}
+
+/// The length of the longest text of a set of 1 to n, over all sets and whatever set attains it.
+pub fn longest_length(n: usize) -> usize {
+    let digits: Vec<usize> = (0..=n).map(|number| number.to_string().len()).collect();
+    // The longest over the sets of no number, of 1 to 1, of 1 to 2 and so on. Here a comma follows
+    // each run, the last one too.
+    let mut best = vec![0];
+    for last in 1..=n {
+        let run = |first: usize| if first == last { digits[last] } else { digits[first] + 1 + digits[last] };
+        // The number `last` ends a run, before which stands a set of 1 to first - 2, or is not in the set.
+        let ended = (1..=last).map(|first| best[first.saturating_sub(2)] + run(first) + 1);
+        let longest = ended.fold(best[last - 1], usize::max);
+        best.push(longest);
+    }
+    best[n].saturating_sub(1)
 }
 
 /// The set that a text gives: a number belongs to it when one of its runs holds that number.

@@ -2,7 +2,7 @@
 
 use reference::marks::TABLE_BYTES;
 use reference::shelf::Shelf;
-use reference::{add, back_to_mark, check_keys, find_mark, found, history, retrieve, set_mark, Answer, WORK_CELLS};
+use reference::{add, back_to_mark, check_keys, find_mark, found, history, longest_history, retrieve, set_mark, Answer, WORK_CELLS};
 
 const KEYS: &[u8] = b"(/, (s, {}))\n(/s, (f, {}))\n(/s, (g, {}))\n";
 
@@ -76,13 +76,14 @@ fn output_exact_and_one_byte_short() {
     let two = add(KEYS, &archive, b"<s/>", 40_000, WORK_CELLS).bytes;
     let mut table = [0; TABLE_BYTES];
     assert_eq!(set_mark(KEYS, &two, &mut table, b"one", 1, WORK_CELLS).number, 0);
-    let calls: [&dyn Fn(usize) -> Answer; 6] = [
+    let calls: [&dyn Fn(usize) -> Answer; 7] = [
         &|out| found(KEYS, &version, out, WORK_CELLS),
         &|out| add(KEYS, &archive, b"<s/>", out, WORK_CELLS),
         &|out| retrieve(KEYS, &two, 1, out, WORK_CELLS),
         &|out| history(KEYS, &two, b"/s", out, WORK_CELLS),
         &|out| back(&two, 1, out),
         &|out| back_to_mark(KEYS, &two, &mut table.clone(), b"one", out, WORK_CELLS),
+        &|out| longest_history(999, out, WORK_CELLS),
     ];
     for call in calls {
         let result = call(40_000);

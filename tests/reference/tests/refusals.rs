@@ -1,7 +1,7 @@
 //! Each refusal, its order, and the choices where document 01 is open.
 
 use reference::marks::TABLE_BYTES;
-use reference::{add, back, back_to_mark, check_keys, find_mark, found, history, retrieve, set_mark, WORK_CELLS};
+use reference::{add, back, back_to_mark, check_keys, find_mark, found, history, longest_history, retrieve, set_mark, WORK_CELLS};
 
 const KEYS: &str = "(/, (s, {}))\n(/s, (f, {}))\n(/s, (k, {p, q}))\n(/s/k, (v, {}))\n";
 const EMPTY: &str = r#"<T t="1"><s></s></T>"#;
@@ -43,6 +43,7 @@ fn one_and_two_come_first() {
     assert_eq!(back_to_mark(k, &long, &mut [], b"", 0, short).number, 1);
     assert_eq!(set_mark(k, &long, &mut [], b"", 1, short).number, 1);
     assert_eq!(find_mark(k, &long, &[], b"", short).0.number, 1);
+    assert_eq!(longest_history(0, 0, short).number, 1);
     assert_eq!(check_keys(&long, WORK_CELLS).number, 2);
     assert_eq!(found(b"bad", &long, 0, WORK_CELLS).number, 2);
     assert_eq!(add(b"bad", a, &long, 0, WORK_CELLS).number, 2);
@@ -337,6 +338,9 @@ fn order_of_the_table() {
     assert_eq!(history(k, a, b"bad", 0, WORK_CELLS).number, 12);
     assert_eq!(history(k, a, b"/s", 0, WORK_CELLS).number, 14);
     assert_eq!(history(k, a, br#"/s/k[p="9" and q="9"]"#, 0, WORK_CELLS).number, 0);
+    assert_eq!(longest_history(0, 0, WORK_CELLS).number, 11);
+    assert_eq!(longest_history(1_000, 0, WORK_CELLS).number, 11);
+    assert_eq!(longest_history(1, 0, WORK_CELLS).number, 14);
 }
 
 /// 3 and 10 come before 17, whatever length the table has, and leave it as it was.

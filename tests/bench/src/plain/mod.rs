@@ -1,5 +1,5 @@
-//! Document 01's six calls and document 02's three over marks, with vacant versions, plain and fast: what one would write
-//! for speed, without proofs.
+//! Document 01's six calls, document 02's three over marks and its longest history, with vacant versions, plain and fast:
+//! what one would write for speed, without proofs.
 //!
 //! Texts are read in one pass into flat arrays; siblings are merged by two pointers; an archive
 //! is checked where it stands, and unchanged parts of it are copied as they are. The work is on
@@ -149,6 +149,14 @@ pub fn find_mark(keys: &[u8], archive: &[u8], table: &[u8], name: &[u8]) -> (u32
             0 => Err(15),
             version => Ok(version),
         }
+    })
+}
+
+/// Write the longest history text over versions 1 to n.
+pub fn longest_history(n: usize, out: &mut [u8]) -> (u32, usize) {
+    answer(|| {
+        let n = standing(n, VERSIONS)?;
+        timestamp::write_longest(n, out).ok_or(14)
     })
 }
 

@@ -1,4 +1,4 @@
-//! Timestamps: sets of the numbers 1 to 999, a bit a version, and their texts.
+//! Timestamps: sets of the numbers 1 to 999, a bit a version, and their texts; the longest text.
 
 #[derive(Clone, PartialEq, Eq)]
 pub struct Timestamp([u64; 16]);
@@ -205,4 +205,49 @@ pub fn write_with(text: &[u8], n: u16, out: &mut Vec<u8>) {
         }
     }
     write_number(n, out);
+}
+
+/// Writes the longest text over 1 to n, n being at least 1, to the output's first bytes and gives its
+/// length; none if the output is shorter. Of each three numbers from n downwards the first two are in it.
+pub fn write_longest(n: u16, out: &mut [u8]) -> Option<usize> {
+    // How many of so many numbers up to n are in it.
+    let among = |numbers: u16| (2 * numbers as usize + 2) / 3;
+    // A digit of each and the byte after it, which n has not; second and third digits.
+    let length = 2 * among(n) - 1 + among(n.saturating_sub(9)) + among(n.saturating_sub(99));
+    // The runs over 99 have eight bytes each, with the comma before. What is before them is the text up
+    // to 98, 99 or 100, or to n.
+    let runs = n.saturating_sub(98) / 3;
+    let before = n - 3 * runs;
+    let (low, high) = out.get_mut(..length)?.split_at_mut(length - 8 * runs as usize);
+    write_low(before, low);
+    for (run, last) in high.chunks_exact_mut(8).zip((before + 3..).step_by(3)) {
+        let ([a, b, c], [d, e, f]) = (digits(last - 1), digits(last));
+        run.copy_from_slice(&[b',', a, b, c, b'-', d, e, f]);
+    }
+    Some(length)
+}
+
+/// The longest text over 1 to n, n being at most 100, in an output of its length.
+fn write_low(n: u16, mut out: &mut [u8]) {
+    let mut number = if n % 3 == 0 { 2 } else { 1 };
+    let mut in_run = n % 3 != 1;
+    while number < n {
+        let [_, tens, ones] = digits(number);
+        let after = if in_run { b'-' } else { b',' };
+        out = if number < 10 { put(out, [ones, after]) } else { put(out, [tens, ones, after]) };
+        number += if in_run { 1 } else { 2 };
+        in_run = !in_run;
+    }
+    out.copy_from_slice(&digits(n)[3 - out.len()..]);
+}
+
+/// Puts bytes at the front and gives what is after them.
+fn put<const N: usize>(out: &mut [u8], bytes: [u8; N]) -> &mut [u8] {
+    let (place, rest) = out.split_at_mut(N);
+    place.copy_from_slice(&bytes);
+    rest
+}
+
+fn digits(number: u16) -> [u8; 3] {
+    [number / 100, number / 10 % 10, number % 10].map(|digit| b'0' + digit as u8)
 }

@@ -5,7 +5,7 @@
 //!     cargo run --offline --release --bin limits > ../../crates/limits/stdout
 
 use reference::marks::TABLE_BYTES;
-use reference::{add, back, back_to_mark, check_keys, find_mark, found, history, retrieve, set_mark, Answer, WORK_CELLS};
+use reference::{add, back, back_to_mark, check_keys, find_mark, found, history, longest_history, retrieve, set_mark, Answer, WORK_CELLS};
 
 const KEYS: &[u8] = b"(/, (s, {}))\n(/s, (f, {}))\n(/s, (k, {p}))\n";
 const ROOM: usize = 32_768;
@@ -258,6 +258,26 @@ fn vacancies(two: &[u8]) {
     adds("1,000 vacant", b"<T t=\"1-999\"></T>", b"", ROOM);
 }
 
+/// The longest history line: short texts, the borders, outputs, refusals, and an archive of 999 versions with such a history.
+fn lines() {
+    let longest = |name: &str, n: usize, room: usize, cells: usize| {
+        let answer = longest_history(n, room, cells);
+        line(name, &answer);
+        answer.bytes
+    };
+    for n in [1, 2, 3, 9, 10, 35, 99, 100, 101, 102, 998, 999] {
+        longest(&format!("longest of {n}"), n, ROOM, WORK_CELLS);
+    }
+    let set = longest("longest exact", 999, 2_591, WORK_CELLS);
+    longest("longest short", 999, 2_590, WORK_CELLS);
+    longest("longest of 0", 0, 0, WORK_CELLS);
+    longest("longest of 1,000", 1_000, 0, WORK_CELLS);
+    longest("longest refusal 1", 0, ROOM, WORK_CELLS - 1);
+    let archive = [b"<T t=\"1-999\"><T t=\"", &set[..], b"\"><s></s></T></T>"].concat();
+    histories("longest history", &archive, "/s", 2_591);
+    histories("longest history short", &archive, "/s", 2_590);
+}
+
 fn main() {
     sizes();
     outputs();
@@ -272,4 +292,5 @@ fn main() {
     mark_outputs(two);
     table_refusals(two);
     vacancies(two);
+    lines();
 }

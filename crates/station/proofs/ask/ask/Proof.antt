@@ -34,6 +34,12 @@ enum-told-5 c = search needs
 give-history-requires : tie.Need-give-history-requires
 give-history-requires c κs = search needs
 
+enum-told-6 : tie.Need-enum-told-6
+enum-told-6 c = search needs
+
+longest-history-requires : tie.Need-longest-history-requires
+longest-history-requires c κs = search needs
+
 same-length : tie.Need-same-length
 same-length c = search needs
 
@@ -76,6 +82,15 @@ same-length-9 c = search needs
 returns-5 : tie.Need-returns-5
 returns-5 c = let a = c .before .before .before .before .before .before .before .before .before .before .before .before .before .before .args in asks (a .keys .now) (a .archive .now) (a .text .now) (a .i) (a .out .now) (a .work .now) (c .before .before .before .before .before .before .before .enum-told5 .given .1) (c .before .before .before .before .give-history .ensures)
 
+same-length-10 : tie.Need-same-length-10
+same-length-10 c = search needs
+
+same-length-11 : tie.Need-same-length-11
+same-length-11 c = search needs
+
+returns-6 : tie.Need-returns-6
+returns-6 c = let a = c .before .before .before .before .before .before .before .before .before .before .before .before .before .before .args in asks (a .keys .now) (a .archive .now) (a .text .now) (a .i) (a .out .now) (a .work .now) (c .before .before .before .before .before .before .before .enum-told6 .given .1) (c .before .before .before .before .longest-history .ensures .ends)
+
 pub ask-spec : {M : Type 1} → statement M
 ask-spec =
     tie.close
@@ -90,6 +105,8 @@ ask-spec =
     retrieve-requires
     enum-told-5
     give-history-requires
+    enum-told-6
+    longest-history-requires
     same-length
     returns
     same-length-2
@@ -103,4 +120,7 @@ ask-spec =
     returns-4
     same-length-8
     same-length-9
-    returns-5)
+    returns-5
+    same-length-10
+    same-length-11
+    returns-6)

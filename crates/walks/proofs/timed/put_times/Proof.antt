@@ -2,7 +2,7 @@
 use native.Mathlib.Omega.{arith}
 use Rattle.xml.specs.Bytes.{bytes}
 use Rattle.timestamp.specs.Set.{setOf}
-use Rattle.timestamp.specs.Short.{text-short}
+use Rattle.timestamp.specs.LongestLaws.{text-short}
 use Rattle.versions.specs.TimedLaws.{wrote-times}
 use borrow.Author.Needs.{needs}
 use Rattle.walks.proofs.timed.put_times.Statement.{statement}
