@@ -30,7 +30,7 @@ extern "C" {
 /* What a call returns: 0, or a row of document 01's table "When a text is sent back", or of document 02's (15 to 17). */
 enum archive_number {
     ARCHIVE_DONE = 0,         /* success */
-    ARCHIVE_WORK = 1,         /* work under 16,384 cells: cannot be here, as each entry has cells of its own */
+    ARCHIVE_WORK = 1,         /* work under 16,384 cells: cannot be here, as no entry asks its caller for cells */
     ARCHIVE_LENGTH = 2,       /* key list over 4,096 bytes, version over 16,384, archive over 32,768, or address over 2,560 */
     ARCHIVE_NOTATION = 3,     /* key list not in the notation */
     ARCHIVE_RULES = 4,        /* key list breaks a rule */

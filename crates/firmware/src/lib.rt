@@ -1,4 +1,4 @@
-// The monitor's C entries: the calls on numbers and byte slices, each with work cells of its own.
+// The monitor's C entries: the calls on numbers and byte slices, with work cells of their own.
 // In C a slice is a pointer and a length (include/station_archive.h).
 mod cells;
 
