@@ -2,6 +2,7 @@
 use crate::Timestamp;
 use crate::fill;
 use crate::take_run;
+use xml::class::is_digit;
 ghost use mathlib.Core.Path.{_≡_};
 ghost use mathlib.Core.Bool.{true, false};
 ghost use Prim.Native.Nat.{_+_, _-_, _*_, _<_, _≤_, min};
@@ -27,12 +28,6 @@ fn byte_at(text: &[u8], at: usize) -> u8
     ensures { λ r. ⌜ r ≡ getD (now (text .entry)) at 44 ⌝ }
 {
     if at < text.len() { text[at] } else { b',' }
-}
-
-fn is_digit(b: u8) -> bool
-    ensures { λ r. ⌜ r ≡ isDigit b ⌝ }
-{
-    if 48 <= b { b <= 57 } else { false }
 }
 
 // The digit that a byte stands for; 0 for a byte before `0`.

@@ -1,4 +1,4 @@
-pub mod Table
+pub mod ClassesKept
 pub mod Tags
 pub mod Steps
 pub mod Turns

@@ -73,7 +73,7 @@ unfoldable pub occurs : Bytes → Bytes → Bool
 occurs p [] = starts p []
 occurs p (b ∷ s) = starts p (b ∷ s) || occurs p s
 
--- ---- "Each byte has one class, found in a table of 256 entries"
+-- ---- "Each byte has one class" (found in a table of 256 entries before Q-3, and by comparison since)
 pub data Class : Type 0 where
   illegal white start other markup plain : Class
 

@@ -10,7 +10,7 @@ use lib.Dec.{eqb}
 use lib.ListN.{length, take, drop, getD}
 use lib.Seq.{slice, drop-cons, drop-drop, length-take-le, length-slice, getD-take, slice-empty, take-take}
 use borrow.Author.Tests.{eq-eqb, ne-eqb, eqb-true, eqb-false}
-use Rattle.xml.specs.Bytes.{Bytes, bytes}
+use Rattle.xml.specs.Bytes.{Bytes, bytes, any, among}
 use Rattle.xml.specs.Forest.{escape}
 use Rattle.xml.specs.Read.{entityAt, unescape}
 use Rattle.xml.specs.ScanLaws.{foundLen, entity-fits}
@@ -131,6 +131,16 @@ escape-cons b s = at (eqb b (code "&")) (eqb b (code "<")) (eqb b (code ">"))
     at false true z = refl
     at false false true = refl
     at false false false = refl
+
+marked-by : (l a g : Bool) → (a || l || g) ≡ (l || (a || false) || g)
+marked-by true true g = refl
+marked-by true false g = refl
+marked-by false true g = refl
+marked-by false false g = refl
+
+pub marked-is : (b : ℕ) → isMarked b ≡ (among "<&" b || eqb b (code ">"))
+unfolding isMarked bytes any among
+marked-is b = marked-by (eqb b (code "<")) (eqb b (code "&")) (eqb b (code ">"))
 
 pub record Plain (b : ℕ) : Type 0 where
   pub no-amp : b ≡ code "&" → ⊥

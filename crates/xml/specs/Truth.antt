@@ -62,6 +62,14 @@ or-swap true true c = refl
 or-swap true false c = refl
 or-swap false b c = refl
 
+-- a choice of four, from the left as code says it and from the right as a list's elements are tested
+pub or-four : (a b c d : Bool) → (a || b || c || d) ≡ (a || (b || (c || (d || false))))
+or-four true b c d = refl
+or-four false true c d = refl
+or-four false false true d = refl
+or-four false false false true = refl
+or-four false false false false = refl
+
 -- a conjunction that fails though its first part holds
 pub and-false : {a b : Bool} → a ≡ true → (a && b) ≡ false → b ≡ false
 and-false p e = rw p at e

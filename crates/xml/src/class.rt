@@ -1,325 +1,79 @@
-// "Each byte has one class, found in a table of 256 entries."
+// The class of a byte, by comparison. Each range of bytes that a class has is said here, once; every test of a byte's class is made of these.
 ghost use mathlib.Core.Path.{_≡_};
-ghost use Rattle.xml.specs.Bytes.{classOf, isWhite, isStart, isNameByte};
+ghost use Rattle.xml.specs.Bytes.{among, within, classOf, isLetter, isDigit, isWhite, isStart, isNameByte};
 ghost use Rattle.xml.specs.ClassNumber.{classNumber};
 
-// 0 illegal, 1 white space, 2 name start, 3 other name byte, 4 markup, 5 other text.
-const CLASS: [u8; 256] = [
-    0,
-    0,
-    0,
-    0,
-    0,
-    0,
-    0,
-    0,
-    0,
-    1,
-    1,
-    0,
-    0,
-    1,
-    0,
-    0,
-    0,
-    0,
-    0,
-    0,
-    0,
-    0,
-    0,
-    0,
-    0,
-    0,
-    0,
-    0,
-    0,
-    0,
-    0,
-    0,
-    1,
-    5,
-    5,
-    5,
-    5,
-    5,
-    4,
-    5,
-    5,
-    5,
-    5,
-    5,
-    5,
-    3,
-    3,
-    5,
-    3,
-    3,
-    3,
-    3,
-    3,
-    3,
-    3,
-    3,
-    3,
-    3,
-    5,
-    5,
-    4,
-    5,
-    5,
-    5,
-    5,
-    2,
-    2,
-    2,
-    2,
-    2,
-    2,
-    2,
-    2,
-    2,
-    2,
-    2,
-    2,
-    2,
-    2,
-    2,
-    2,
-    2,
-    2,
-    2,
-    2,
-    2,
-    2,
-    2,
-    2,
-    2,
-    2,
-    5,
-    5,
-    5,
-    5,
-    2,
-    5,
-    2,
-    2,
-    2,
-    2,
-    2,
-    2,
-    2,
-    2,
-    2,
-    2,
-    2,
-    2,
-    2,
-    2,
-    2,
-    2,
-    2,
-    2,
-    2,
-    2,
-    2,
-    2,
-    2,
-    2,
-    2,
-    2,
-    5,
-    5,
-    5,
-    5,
-    0,
-    0,
-    0,
-    0,
-    0,
-    0,
-    0,
-    0,
-    0,
-    0,
-    0,
-    0,
-    0,
-    0,
-    0,
-    0,
-    0,
-    0,
-    0,
-    0,
-    0,
-    0,
-    0,
-    0,
-    0,
-    0,
-    0,
-    0,
-    0,
-    0,
-    0,
-    0,
-    0,
-    0,
-    0,
-    0,
-    0,
-    0,
-    0,
-    0,
-    0,
-    0,
-    0,
-    0,
-    0,
-    0,
-    0,
-    0,
-    0,
-    0,
-    0,
-    0,
-    0,
-    0,
-    0,
-    0,
-    0,
-    0,
-    0,
-    0,
-    0,
-    0,
-    0,
-    0,
-    0,
-    0,
-    0,
-    0,
-    0,
-    0,
-    0,
-    0,
-    0,
-    0,
-    0,
-    0,
-    0,
-    0,
-    0,
-    0,
-    0,
-    0,
-    0,
-    0,
-    0,
-    0,
-    0,
-    0,
-    0,
-    0,
-    0,
-    0,
-    0,
-    0,
-    0,
-    0,
-    0,
-    0,
-    0,
-    0,
-    0,
-    0,
-    0,
-    0,
-    0,
-    0,
-    0,
-    0,
-    0,
-    0,
-    0,
-    0,
-    0,
-    0,
-    0,
-    0,
-    0,
-    0,
-    0,
-    0,
-    0,
-    0,
-    0,
-    0,
-    0,
-    0,
-    0,
-    0,
-    0,
-];
-
-// The class of a byte.
-pub fn class(b: u8) -> u8
-    ensures { λ r. ⌜ r ≡ classNumber (classOf b) ⌝ }
+// A small letter.
+pub(crate) fn is_small(b: u8) -> bool
+    ensures { λ r. ⌜ r ≡ within 0x61 0x7A b ⌝ }
 {
-    CLASS[b as usize]
+    (b'a' <= b) & (b <= b'z')
+}
+
+// A letter.
+fn is_letter(b: u8) -> bool
+    ensures { λ r. ⌜ r ≡ isLetter b ⌝ }
+{
+    ((b'A' <= b) & (b <= b'Z')) | is_small(b)
+}
+
+// A digit.
+pub fn is_digit(b: u8) -> bool
+    ensures { λ r. ⌜ r ≡ isDigit b ⌝ }
+{
+    if b'0' <= b { b <= b'9' } else { false }
+}
+
+// A byte that is printed: 20 to 7E hexadecimal.
+pub(crate) fn is_printed(b: u8) -> bool
+    ensures { λ r. ⌜ r ≡ within 0x20 0x7E b ⌝ }
+{
+    (0x20 <= b) & (b <= 0x7E)
+}
+
+// A byte of markup.
+pub(crate) fn is_markup(b: u8) -> bool
+    ensures { λ r. ⌜ r ≡ among "<&" b ⌝ }
+{
+    (b == b'<') | (b == b'&')
+}
+
+// A byte of white space: tab, LF, CR, space.
+pub fn is_white_byte(b: u8) -> bool
+    ensures { λ r. ⌜ r ≡ isWhite b ⌝ }
+{
+    (b == b'\t') | (b == b'\n') | (b == b'\r') | (b == b' ')
 }
 
 // A byte that starts a name: a letter or `_`.
 pub fn is_name_start(b: u8) -> bool
     ensures { λ r. ⌜ r ≡ isStart b ⌝ }
 {
-    if b'a' <= b {
-        return b <= b'z';
-    }
-    if b == b'_' {
-        return true;
-    }
-    if b < b'A' {
-        return false;
-    }
-    b <= b'Z'
+    is_letter(b) | (b == b'_')
 }
 
-// A byte of a name: a letter, a digit, `_`, `-` or `.`.
+// A byte of a name: one that starts a name, a digit, `.` or `-`.
 pub fn is_name_byte(b: u8) -> bool
     ensures { λ r. ⌜ r ≡ isNameByte b ⌝ }
 {
-    if b'a' <= b {
-        return b <= b'z';
-    }
-    if b'A' <= b {
-        if b <= b'Z' {
-            return true;
-        }
-        return b == b'_';
-    }
-    if b'0' <= b {
-        return b <= b'9';
-    }
-    if b == b'-' {
-        return true;
-    }
-    b == b'.'
+    is_name_start(b) | is_digit(b) | (b == b'.') | (b == b'-')
 }
 
-// A byte of white space; the table is not asked of a space, a line feed, or a byte above the space.
-pub fn is_white_byte(b: u8) -> bool
-    ensures { λ r. ⌜ r ≡ isWhite b ⌝ }
+// The class of a byte: 0 illegal, 1 white space, 2 name start, 3 other name byte, 4 markup, 5 other text.
+pub fn class(b: u8) -> u8
+    ensures { λ r. ⌜ r ≡ classNumber (classOf b) ⌝ }
 {
-    if b' ' < b {
-        return false;
+    if is_name_start(b) {
+        return 2;
     }
-    if b == b' ' {
-        return true;
+    if is_name_byte(b) {
+        return 3;
     }
-    if b == b'\n' {
-        return true;
+    if is_white_byte(b) {
+        return 1;
     }
-    class(b) == 1
+    if is_markup(b) {
+        return 4;
+    }
+    if is_printed(b) { 5 } else { 0 }
 }

@@ -4,8 +4,12 @@ use crate::Next;
 use crate::Run;
 use crate::Start;
 use crate::class::class;
+use crate::class::is_digit;
+use crate::class::is_markup;
 use crate::class::is_name_byte;
 use crate::class::is_name_start;
+use crate::class::is_printed;
+use crate::class::is_small;
 use crate::text::is_marked;
 use crate::writer::least;
 ghost use mathlib.Core.Path.{_≡_};
@@ -26,7 +30,7 @@ pub fn byte_at(src: &[u8], i: usize) -> u8
     if i < src.len() { src[i] } else { 0 }
 }
 
-// How many bytes of a name stand at a place, after its first.
+// How many bytes of a name stand at a place, after its first; small letters, the most of them, are told first.
 fn name_rest(src: &[u8], at: usize) -> usize
     requires { ⌜ at ≤ length (now src) ⌝ }
     ensures { λ r. ⌜ r ≡ nameRest 31 (drop at (now (src .entry))) ⌝ }
@@ -34,8 +38,11 @@ fn name_rest(src: &[u8], at: usize) -> usize
     let count = least(31, src.len() - at);
     let mut n = 0;
     while n < count {
-        if !is_name_byte(src[at + n]) {
-            return n;
+        let b = src[at + n];
+        if !is_small(b) {
+            if !is_name_byte(b) {
+                return n;
+            }
         }
         n += 1;
     }
@@ -60,7 +67,7 @@ pub fn name_len(src: &[u8], at: usize) -> usize
 fn is_foreign(b: u8) -> bool
     ensures { λ r. ⌜ r ≡ not (isTimes b) ⌝ }
 {
-    (b < b',') | (b'9' < b) | (b == b'.') | (b == b'/')
+    !(is_digit(b) | (b == b'-') | (b == b','))
 }
 
 // Whether one of sixteen bytes is none of a timestamp; without a branch, so that they are compared at once.
@@ -169,34 +176,25 @@ pub fn entity_at(src: &[u8], at: usize) -> Found
     Found::Miss(larger(lt, larger(gt, larger(amp, larger(quot, larger(apos, 0))))))
 }
 
-// A byte after which a text goes on, whatever stands before it: a line feed, or 32 to 126 and none of `<`, `&`, `]`, `>`. Digits are told first,
-// then small letters.
-fn is_plain(b: u8) -> bool
-    ensures { λ r. ⌜ r ≡ isPlain b ⌝ }
-{
-    if (b'&' < b) & (b < b'<') {
-        return true;
-    }
-    if b'a' <= b {
-        return b <= 126;
-    }
-    if b'>' < b {
-        return b != b']';
-    }
-    if b'&' < b {
-        return b == b'=';
-    }
-    if b < 32 {
-        return b == b'\n';
-    }
-    b != b'&'
-}
-
-// A byte that is not one of 32 to 126, or is `]`; told without a branch.
+// A byte that is not printed, or is `]`; told without a branch.
 fn is_far(b: u8) -> bool
     ensures { λ r. ⌜ r ≡ isFar b ⌝ }
 {
-    (b < 32) | (126 < b) | (b == b']')
+    !is_printed(b) | (b == b']')
+}
+
+// A byte after which a text goes on, whatever stands before it: a line feed, or 20 to 7E hexadecimal and none of `<`, `&`, `]`, `>`.
+// Digits are told first, then markup, which ends most runs.
+fn is_plain(b: u8) -> bool
+    ensures { λ r. ⌜ r ≡ isPlain b ⌝ }
+{
+    if is_digit(b) {
+        return true;
+    }
+    if is_markup(b) {
+        return false;
+    }
+    (b == b'\n') | !(is_marked(b) | is_far(b))
 }
 
 // Whether one of `count` bytes is marked or far; without a branch, so that they are compared at once.
@@ -262,7 +260,7 @@ fn plain_run(src: &[u8], at: usize) -> usize
     plain_bytes(src, plain_blocks(src, j + 8), src.len())
 }
 
-// What a byte of a text means, after q times `]`; the table is asked of the bytes that mean nothing here.
+// What a byte of a text means, after q times `]`; its class is asked of the bytes that mean nothing here.
 fn text_byte(src: &[u8], at: usize, q: usize) -> Next
     requires { ⌜ (at < length (now src)) × (q ≤ at) ⌝ }
     ensures { λ r. ⌜ r ≡ textByte q (getD (now (src .entry)) at 0) (drop (at + 1) (now (src .entry))) ⌝ }

@@ -1,5 +1,6 @@
 // Runs of text, from their raw bytes: what is meant at a place, and how far the bytes are written as they stand.
 use crate::Found;
+use crate::class::is_markup;
 use crate::scan::entity_at;
 ghost use mathlib.Core.Path.{_≡_};
 ghost use mathlib.Core.Bool.{false};
@@ -43,7 +44,7 @@ pub fn sign_at(src: &[u8], i: usize, e: usize) -> Sign
 pub(crate) fn is_marked(b: u8) -> bool
     ensures { λ r. ⌜ r ≡ isMarked b ⌝ }
 {
-    (b == b'&') | (b == b'<') | (b == b'>')
+    is_markup(b) | (b == b'>')
 }
 
 // Whether one of sixteen bytes is marked; without a branch, so that they are compared at once.

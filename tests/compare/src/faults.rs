@@ -1,10 +1,13 @@
 //! The comparison finds planted faults: those of document 01's "Held to by each call", 3, those of
 //! an output, length or number that is not as promised, and those of marks, of vacant versions and of
-//! the longest history (document 02, Q-2, Q-6 and Q-14).
+//! the longest history (document 02, Q-2, Q-6 and Q-14). Those of byte classes by formula (Q-3), each
+//! range of a class one byte too wide or too narrow at each of its ends, are found by the sweep of
+//! that byte alone (`bytes`), at each kind of place where the class decides.
 
+use crate::bytes::{self, Places};
 use crate::comparison::Comparison;
 use crate::round;
-use crate::station::{Call, Reference, Returned, Station};
+use crate::station::{answer, Call, Reference, Returned, Station};
 use reference::marks::{self, entries, Mark, TABLE_BYTES, UNUSED};
 use reference::timestamp::{self, longest};
 use reference::xml::is_white_space;
@@ -62,6 +65,78 @@ enum Fault {
     LongestOf16Bits,
     LongestOf32Bits,
     LongestCut,
+    SeesAs(Misread),
+}
+
+/// A text that a call is lent.
+#[derive(Clone, Copy, Debug)]
+enum Lent {
+    Keys,
+    Version,
+    Address,
+    Archive,
+}
+
+impl Lent {
+    /// This text of a call; none if the call doesn't take it.
+    fn of<'a>(self, keys: &'a [u8], call: Call<'a>) -> Option<&'a [u8]> {
+        match (self, call) {
+            (Lent::Keys, _) => Some(keys),
+            (Lent::Version, Call::Found { version } | Call::Add { version, .. }) => Some(version),
+            (Lent::Address, Call::History { address, .. }) => Some(address),
+            (Lent::Archive, Call::Add { archive, .. } | Call::Retrieve { archive, .. }) => Some(archive),
+            (Lent::Archive, Call::History { archive, .. } | Call::Back { archive, .. }) => Some(archive),
+            _ => None,
+        }
+    }
+
+    /// The key list and the call with another text in place of this one.
+    fn exchanged<'a>(self, keys: &'a [u8], call: Call<'a>, text: &'a [u8]) -> (&'a [u8], Call<'a>) {
+        match (self, call) {
+            (Lent::Keys, _) => (text, call),
+            (Lent::Version, Call::Found { .. }) => (keys, Call::Found { version: text }),
+            (Lent::Version, Call::Add { archive, .. }) => (keys, Call::Add { archive, version: text }),
+            (Lent::Address, Call::History { archive, .. }) => (keys, Call::History { archive, address: text }),
+            (Lent::Archive, Call::Add { version, .. }) => (keys, Call::Add { archive: text, version }),
+            (Lent::Archive, Call::Retrieve { i, .. }) => (keys, Call::Retrieve { archive: text, i }),
+            (Lent::Archive, Call::History { address, .. }) => (keys, Call::History { archive: text, address }),
+            (Lent::Archive, Call::Back { table, i, .. }) => (keys, Call::Back { archive: text, table, i }),
+            _ => (keys, call),
+        }
+    }
+}
+
+/// A wrong range: a byte of one lent text is seen as another byte.
+#[derive(Clone, Copy, Debug)]
+struct Misread {
+    lent: Lent,
+    byte: u8,
+    seen_as: u8,
+    /// Too wide a range takes texts that are to be refused, too narrow a range refuses legal ones.
+    /// Only such calls are answered wrongly, as a byte misread in every tag would be found at once.
+    too_wide: bool,
+    /// The byte is misread only from the first of these places of a run up to the second. A run begins
+    /// after `<`, `>` or `"`, and with the text.
+    run: (usize, usize),
+}
+
+impl Misread {
+    /// The texts that a text is seen as: the byte misread in one of its places, or in two, as a name is
+    /// in a start tag and in its end tag.
+    fn seen(&self, text: &[u8]) -> Vec<Vec<u8>> {
+        let (from, to) = self.run;
+        let place = |at: usize| text[..at].iter().rev().take_while(|byte| !b"<>\"".contains(byte)).count();
+        let misread: Vec<usize> = (0..text.len()).filter(|&at| text[at] == self.byte && (from..to).contains(&place(at))).collect();
+        let mut seen = vec![];
+        for (number, &one) in misread.iter().enumerate() {
+            for &other in &misread[number..] {
+                let mut text = text.to_vec();
+                (text[one], text[other]) = (self.seen_as, self.seen_as);
+                seen.push(text);
+            }
+        }
+        seen
+    }
 }
 
 struct Faulty(Fault);
@@ -137,6 +212,9 @@ impl Station for Faulty {
     }
 
     fn call(&self, keys: &[u8], call: Call, table: &mut [u8], out: &mut [u8]) -> Returned {
+        if let Some(wrong) = self.misread(keys, call, table, out) {
+            return wrong;
+        }
         let before = out.to_vec();
         let right = Reference.call(keys, call, table, out);
         let Returned { number, length, .. } = right;
@@ -210,6 +288,21 @@ impl Station for Faulty {
 }
 
 impl Faulty {
+    /// The faults of byte classes: the answer for a lent text as it is seen, where only that one or only
+    /// the right one is refused; none for every other call.
+    fn misread(&self, keys: &[u8], call: Call, table: &mut [u8], out: &mut [u8]) -> Option<Returned> {
+        let Fault::SeesAs(misread) = self.0 else { return None };
+        let is_taken = |keys: &[u8], call: Call| answer(keys, call, usize::MAX).number == 0;
+        let text = misread.lent.of(keys, call)?;
+        if !text.contains(&misread.byte) || is_taken(keys, call) == misread.too_wide {
+            return None;
+        }
+        misread.seen(text).iter().find_map(|seen| {
+            let (keys, call) = misread.lent.exchanged(keys, call, seen);
+            (is_taken(keys, call) == misread.too_wide).then(|| Reference.call(keys, call, table, out))
+        })
+    }
+
     /// The faults of vacant versions: what is given in place of the right number and result.
     fn wrong_result(&self, keys: &[u8], call: Call, number: u32, result: &[u8]) -> Option<Vec<u8>> {
         match (self.0, call) {
@@ -362,4 +455,121 @@ fn each_fault_is_found() {
     for fault in faults {
         assert!(is_found(fault), "{fault:?}");
     }
+}
+
+/// All places of a run.
+const ANY: (usize, usize) = (0, usize::MAX);
+
+/// The ends of the ranges of name bytes, and the name bytes in no range: the byte outside and that one.
+const NAME_ENDS: [(u8, u8); 10] = [
+    (b'@', b'A'), (b'[', b'Z'), (b'`', b'a'), (b'{', b'z'), (b'/', b'0'), (b':', b'9'), (b'^', b'_'), (b'`', b'_'), (b',', b'-'), (b'/', b'.'),
+];
+
+/// The ends of the range of text. The space is white space, so the least byte of other text is the next.
+const TEXT_ENDS: [(u8, u8); 2] = [(0x1F, b'!'), (0x7F, b'~')];
+
+/// Asserts that the sweep of the misread byte at these places finds the fault: a part of `bytes::run`.
+fn assert_found(places: &Places, misread: Misread) {
+    let station = Faulty(Fault::SeesAs(misread));
+    let mut c = Comparison::new(&station);
+    places.ask(&mut c, misread.byte);
+    assert!(!c.differences.is_empty(), "{misread:x?}");
+}
+
+/// A range is too wide: it takes the byte outside as the one at its end.
+fn assert_wide_found(places: &Places, lent: Lent, run: (usize, usize), (outside, end): (u8, u8)) {
+    assert_found(places, Misread { lent, byte: outside, seen_as: end, too_wide: true, run });
+}
+
+/// A range is too narrow: the byte at its end is taken as the one outside.
+fn assert_narrow_found(places: &Places, lent: Lent, run: (usize, usize), (outside, end): (u8, u8)) {
+    assert_found(places, Misread { lent, byte: end, seen_as: outside, too_wide: false, run });
+}
+
+fn wrong_name_bytes(places: &Places, lent: Lent, run: (usize, usize)) {
+    for ends in NAME_ENDS {
+        assert_wide_found(places, lent, run, ends);
+        assert_narrow_found(places, lent, run, ends);
+    }
+    // The highest bit is not looked at.
+    for byte in *b"AZaz09._-" {
+        assert_wide_found(places, lent, run, (byte | 0x80, byte));
+    }
+}
+
+/// Other name bytes begin a name, or `_` does not.
+fn wrong_first_bytes(places: &Places, lent: Lent) {
+    for byte in *b"09.-" {
+        assert_wide_found(places, lent, ANY, (byte, b'n'));
+    }
+    assert_narrow_found(places, lent, ANY, (b'-', b'_'));
+}
+
+fn wrong_texts(places: &Places, lent: Lent, run: (usize, usize)) {
+    for ends in TEXT_ENDS {
+        assert_wide_found(places, lent, run, ends);
+        assert_narrow_found(places, lent, run, ends);
+    }
+    for byte in [0x00, 0x80, 0xA1, 0xFF, b'&', b'<'] {
+        assert_wide_found(places, lent, run, (byte, b'!'));
+    }
+    // The bytes beside `&` and `<` are taken as these.
+    for ends in [(b'&', b'%'), (b'&', b'\''), (b'<', b';'), (b'<', b'=')] {
+        assert_narrow_found(places, lent, run, ends);
+    }
+}
+
+/// Too much or too little is taken as white space: what is none is illegal, or other text.
+fn wrong_white_space(places: &Places, run: (usize, usize)) {
+    for (byte, white_space) in [(0x08, b'\t'), (0x0B, b'\n'), (0x0C, b'\r'), (0x0E, b'\r'), (0x1F, b' '), (b'!', b' '), (0x00, b' '), (0x85, b' '), (0xA0, b' ')] {
+        assert_wide_found(places, Lent::Version, run, (byte, white_space));
+    }
+    for white_space in *b"\t\n\r " {
+        for byte in [0x0B, b'!'] {
+            assert_narrow_found(places, Lent::Version, run, (byte, white_space));
+        }
+    }
+}
+
+fn wrong_digits(places: &Places, run: (usize, usize)) {
+    for ends in [(b'/', b'0'), (b':', b'9')] {
+        assert_wide_found(places, Lent::Archive, run, ends);
+        assert_narrow_found(places, Lent::Archive, run, ends);
+    }
+    assert_wide_found(places, Lent::Archive, run, (b'0' | 0x80, b'0'));
+}
+
+#[test]
+fn each_wrong_range_is_found() {
+    use Lent::*;
+    let [texts, white_space, names, values, key_lists, addresses, timestamps, _] = bytes::kinds();
+    for (places, lent) in [(&names, Version), (&names, Archive), (&key_lists, Keys)] {
+        wrong_first_bytes(places, lent);
+    }
+    wrong_name_bytes(&names, Archive, ANY);
+    wrong_name_bytes(&key_lists, Keys, ANY);
+    // In every place of a run, or only in some: a scanner may compare a block of bytes by other means.
+    for run in [ANY, (1, 16), (16, 31), (31, 32)] {
+        for (places, lent) in [(&names, Version), (&values, Version), (&values, Archive), (&addresses, Address)] {
+            wrong_name_bytes(places, lent, run);
+        }
+    }
+    for run in [ANY, (0, 6), (6, 9), (14, 18), (16, 32), (32, 34), (34, usize::MAX)] {
+        wrong_texts(&texts, Version, run);
+        wrong_texts(&texts, Archive, run);
+    }
+    for run in [ANY, (0, 8), (8, 16), (16, 32), (32, usize::MAX)] {
+        wrong_white_space(&white_space, run);
+    }
+    for run in [ANY, (0, 16), (16, 32), (32, 48), (48, usize::MAX)] {
+        wrong_digits(&timestamps, run);
+    }
+}
+
+#[test]
+fn no_wrong_range_no_difference() {
+    let station = Faulty(Fault::None);
+    let mut c = Comparison::new(&station);
+    bytes::run(&mut c);
+    assert!(c.differences.is_empty(), "{}", c.summary());
 }

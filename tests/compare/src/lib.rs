@@ -3,6 +3,7 @@
 
 pub mod addresses;
 pub mod archives;
+pub mod bytes;
 pub mod comparison;
 #[cfg(test)]
 mod faults;

@@ -1,5 +1,6 @@
 //! The limits, the worked record and each refusal: the same cases in every run, before the rounds.
 
+use crate::bytes;
 use crate::comparison::Comparison;
 use crate::marks::{name_of, table, UNUSED};
 use crate::station::Call;
@@ -8,13 +9,14 @@ use reference::shelf::Shelf;
 use reference::timestamp::{longest, text};
 
 const STATION: &str = "(/, (station, {}))\n(/station, (light, {}))\n(/station, (lamp, {pos}))\n(/station/lamp, (type, {}))\n(/station/lamp, (hours, {}))\n";
-const KEYS: &str = "(/, (s, {}))\n(/s, (f, {}))\n(/s, (g, {}))\n(/s, (k, {p}))\n(/s/k, (v, {}))\n";
+pub(crate) const KEYS: &str = "(/, (s, {}))\n(/s, (f, {}))\n(/s, (g, {}))\n(/s, (k, {p}))\n(/s/k, (v, {}))\n";
 
 pub fn run(c: &mut Comparison) {
     c.place = "limits".into();
     record(c);
     key_lists(c);
     spellings(c);
+    bytes::run(c);
     versions(c);
     numbers_of_versions(c);
     sizes_of_archives(c);
@@ -217,12 +219,6 @@ fn versions(c: &mut Comparison) {
         texts.push(f(&format!("<{name}></{name}>")));
         texts.push(f(&format!("<{name}/>")));
         texts.push(format!("<s><k><p>{name}</p></k></s>"));
-    }
-    for byte in 0..=255u8 {
-        let with = |before: &[u8], after: &[u8]| [before, &[byte], after].concat();
-        for text in [with(b"<s><f>a", b"b</f></s>"), with(b"<s><f><a", b"/></f></s>"), with(b"<s><f><", b"/></f></s>"), with(b"<s><k><p>1", b"</p></k></s>"), with(b"<s>", b"</s>"), with(b"", b"<s/>")] {
-            c.ask_each_output(KEYS.as_bytes(), Call::Found { version: &text });
-        }
     }
     for text in &texts {
         let archive = found(c, KEYS, text);

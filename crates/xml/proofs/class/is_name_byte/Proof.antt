@@ -1,26 +1,28 @@
--- `xml::class::is_name_byte` meets its contract: a law for each return. Assumes nothing.
-use mathlib.Core.Path.{sym}
-use Rattle.xml.specs.ByteTests.{letter-capital, letter-named, named-small, named-between, named-digit, dash-named, named-sign}
+-- `xml::class::is_name_byte` meets its contract. Assumes nothing.
+use Prim.Native.Char.{code}
+use mathlib.Core.Path.{sym, _∙_, ap₂}
+use mathlib.Core.Bool.{Bool, _||_}
+use borrow.Author.Needs.{needs}
+use lib.Dec.{eqb}
+use Rattle.xml.specs.Bytes.{bytes, any, among, isLetter, isDigit}
+use Rattle.xml.specs.ByteTests.{start-is, name-is}
+use Rattle.xml.specs.Truth.{or-four}
 use Rattle.xml.proofs.class.is_name_byte.Statement.{statement}
 use Rattle.xml.proofs.class.is_name_byte.Tie as tie
 
+is-name-start-requires : tie.Need-is-name-start-requires
+is-name-start-requires c κs = search needs
+
+is-digit-requires : tie.Need-is-digit-requires
+is-digit-requires c κs = search needs
+
 returns : tie.Need-returns
-returns c = sym (named-small (c .before .args .b) (c .if1 .taken))
-
-returns-2 : tie.Need-returns-2
-returns-2 c = sym (letter-named (c .before .before .before .args .b) (letter-capital (c .before .before .before .args .b) (c .before .if2 .taken) (c .if3 .taken)))
-
-returns-3 : tie.Need-returns-3
-returns-3 c = sym (named-between (c .before .before .before .args .b) (c .if3 .left) (c .before .before .if1 .left))
-
-returns-4 : tie.Need-returns-4
-returns-4 c = sym (named-digit (c .before .before .before .args .b) (c .if4 .taken) (c .before .if2 .left))
-
-returns-5 : tie.Need-returns-5
-returns-5 c = sym (dash-named (c .before .before .before .before .args .b) (c .if5 .taken))
-
-returns-6 : tie.Need-returns-6
-returns-6 c = sym (named-sign (c .before .before .before .before .args .b) (c .before .if4 .left) (c .if5 .left))
+unfolding bytes any among
+returns c =
+    let b = c .before .before .args .b in
+    ap₂ (λ (t u : Bool). t || u || eqb b (code ".") || eqb b (code "-")) (c .before .is-name-start .ensures ∙ start-is b) (c .is-digit .ensures)
+    ∙ or-four (isLetter b || eqb b (code "_")) (isDigit b) (eqb b (code ".")) (eqb b (code "-"))
+    ∙ sym (name-is b)
 
 pub is-name-byte-spec : {M : Type 1} → statement M
-is-name-byte-spec = tie.close (tie.spec returns returns-2 returns-3 returns-4 returns-5 returns-6)
+is-name-byte-spec = tie.close (tie.spec is-name-start-requires is-digit-requires returns)

@@ -1,20 +1,20 @@
--- `xml::class::is_name_start` meets its contract: a law for each return. Assumes nothing.
-use mathlib.Core.Path.{sym}
-use Rattle.xml.specs.ByteTests.{start-small, line-starts, start-low, start-capital}
+-- `xml::class::is_name_start` meets its contract. Assumes nothing.
+use Prim.Native.Char.{code}
+use mathlib.Core.Path.{sym, _∙_, ap}
+use mathlib.Core.Bool.{Bool, _||_}
+use borrow.Author.Needs.{needs}
+use lib.Dec.{eqb}
+use Rattle.xml.specs.ByteTests.{start-is}
 use Rattle.xml.proofs.class.is_name_start.Statement.{statement}
 use Rattle.xml.proofs.class.is_name_start.Tie as tie
 
+is-letter-requires : tie.Need-is-letter-requires
+is-letter-requires c κs = search needs
+
 returns : tie.Need-returns
-returns c = sym (start-small (c .before .args .b) (c .if1 .taken))
-
-returns-2 : tie.Need-returns-2
-returns-2 c = sym (line-starts (c .before .before .args .b) (c .if2 .taken))
-
-returns-3 : tie.Need-returns-3
-returns-3 c = sym (start-low (c .before .before .before .args .b) (c .if3 .taken))
-
-returns-4 : tie.Need-returns-4
-returns-4 c = sym (start-capital (c .before .before .before .args .b) (c .if3 .left) (c .before .before .if1 .left) (c .before .if2 .left))
+returns c =
+    let b = c .before .args .b in
+    ap (λ (t : Bool). t || eqb b (code "_")) (c .is-letter .ensures) ∙ sym (start-is b)
 
 pub is-name-start-spec : {M : Type 1} → statement M
-is-name-start-spec = tie.close (tie.spec returns returns-2 returns-3 returns-4)
+is-name-start-spec = tie.close (tie.spec is-letter-requires returns)

@@ -1,37 +1,45 @@
 -- `xml::scan::is_plain` meets its contract: a law for each return. Assumes nothing.
 use Prim.Native.Char.{code}
-use mathlib.Core.Path.{sym}
-use native.Mathlib.Omega.{arith}
-use borrow.Author.Tests.{ltb-true, ltb-false, lt-ltb}
-use lib.Dec.{ltb}
-use Rattle.xml.specs.ByteTests.{plain-middle, plain-above, plain-capital, plain-upper, plain-low, plain-lower}
-use Rattle.xml.specs.Truth.{and-left, and-right, and-false}
+use mathlib.Core.Path.{sym, _∙_, ap₂}
+use mathlib.Core.Bool.{Bool, not, _||_}
+use borrow.Author.Needs.{needs}
+use lib.Dec.{eqb}
+use Rattle.xml.specs.ByteTests.{plain-digit, plain-markup}
+use Rattle.xml.specs.Stretch.{plain-is}
 use Rattle.xml.proofs.scan.is_plain.Statement.{statement}
 use Rattle.xml.proofs.scan.is_plain.Tie as tie
 
+is-digit-requires : tie.Need-is-digit-requires
+is-digit-requires c κs = search needs
+
 returns : tie.Need-returns
-returns c =
-    let b = c .before .args .b in
-    let x = ltb (code "&") b in
-    let y = ltb b (code "<") in
-    sym (plain-middle b (ltb-true (code "&") b (and-left x y (c .if1 .taken))) (ltb-true b (code "<") (and-right x y (c .if1 .taken))))
+returns c = sym (plain-digit (c .before .before .args .b) (sym (c .before .is-digit .ensures) ∙ c .if1 .taken))
+
+is-markup-requires : tie.Need-is-markup-requires
+is-markup-requires c κs = search needs
 
 returns-2 : tie.Need-returns-2
-returns-2 c = sym (plain-above (c .before .before .args .b) (omega arith) (λ e. omega arith))
+returns-2 c = sym (plain-markup (c .before .before .before .before .args .b) (sym (c .before .is-markup .ensures) ∙ c .if2 .taken))
+
+is-marked-requires : tie.Need-is-marked-requires
+is-marked-requires c κs = search needs
+
+is-far-requires : tie.Need-is-far-requires
+is-far-requires c κs = search needs
 
 returns-3 : tie.Need-returns-3
-returns-3 c = sym (plain-capital (c .before .before .before .args .b) (c .if3 .taken) (omega arith))
-
-returns-4 : tie.Need-returns-4
-returns-4 c =
-    let b = c .before .before .before .before .args .b in
-    sym (plain-upper b (ltb-false b (code "<") (and-false (lt-ltb (code "&") b (c .if4 .taken)) (c .before .before .before .if1 .left))) (c .before .if3 .left))
-
-returns-5 : tie.Need-returns-5
-returns-5 c = sym (plain-low (c .before .before .before .before .before .args .b) (c .if5 .taken))
-
-returns-6 : tie.Need-returns-6
-returns-6 c = sym (plain-lower (c .before .before .before .before .before .args .b) (c .if5 .left) (c .before .if4 .left))
+returns-3 c =
+    let b = c .before .before .before .before .before .before .args .b in
+    ap₂ (λ (t u : Bool). eqb b (code "\n") || not (t || u)) (c .before .is-marked .ensures) (c .is-far .ensures) ∙ sym (plain-is b)
 
 pub is-plain-spec : {M : Type 1} → statement M
-is-plain-spec = tie.close (tie.spec returns returns-2 returns-3 returns-4 returns-5 returns-6)
+is-plain-spec =
+    tie.close
+    (tie.spec
+    is-digit-requires
+    returns
+    is-markup-requires
+    returns-2
+    is-marked-requires
+    is-far-requires
+    returns-3)
