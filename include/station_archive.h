@@ -65,7 +65,10 @@ enum archive_length {
 
 /* A version is one root element or, where a station is struck off, vacant: empty (length 0) or white space alone. A
  * vacant version counts as any other, and holds no address; its written form is empty. An empty version is best lent as
- * "" and 0: NULL and 0 is promised nothing. */
+ * "" and 0: NULL and 0 is promised nothing.
+ * In a version CR LF, and a CR with no LF after it, are read as one LF, before all but the length test: the 16,384 bytes
+ * of ARCHIVE_LENGTH are counted as lent, all else is of the text with LF. No result has a CR; an archive that has one is
+ * not legal. In a key list, an address and a mark's name CR is illegal. */
 
 /* Checks a key list. It has no output: *length is 0. Returns 0 or 2 to 4. */
 uint32_t archive_check_keys(const uint8_t *keys, size_t keys_len, size_t *length);

@@ -21,12 +21,14 @@ static uint32_t hand_back(const uint8_t *archive, size_t archive_len, uint32_t n
     return ARCHIVE_DONE;
 }
 
-/* 1: an add that hands back its archive. 10: one that does so of an empty version, as if none were added. */
+/* 1: an add that hands back its archive. 10: one that does so of an empty version, as if none were added. 13: one that does so of a
+ * version with a CR. */
 uint32_t __real_archive_add(LENT, const uint8_t *version, size_t version_len, RESULT);
 uint32_t __wrap_archive_add(LENT, const uint8_t *version, size_t version_len, RESULT) {
     uint32_t number = __real_archive_add(LENT_ON, version, version_len, RESULT_ON);
     int absent = FAULT == 10 && version_len == 0;
-    return FAULT == 1 || absent ? hand_back(archive, archive_len, number, out, length) : number;
+    int returned = FAULT == 13 && memchr(version, '\r', version_len) != NULL;
+    return FAULT == 1 || absent || returned ? hand_back(archive, archive_len, number, out, length) : number;
 }
 
 /* 2: a step back that does so. */
@@ -44,11 +46,12 @@ uint32_t __wrap_archive_history(LENT, const uint8_t *address, size_t address_len
     return number;
 }
 
-/* 4: a retrieval that writes one byte past its result. */
+/* 4: a retrieval that writes one byte past its result. 14: one that takes an archive with a CR. */
 uint32_t __real_archive_retrieve(LENT, size_t i, RESULT);
 uint32_t __wrap_archive_retrieve(LENT, size_t i, RESULT) {
     uint32_t number = __real_archive_retrieve(LENT_ON, i, RESULT_ON);
     if (FAULT == 4 && number == ARCHIVE_DONE) out[*length] = 0;
+    if (FAULT == 14 && memchr(archive, '\r', archive_len) != NULL) return ARCHIVE_DONE;
     return number;
 }
 

@@ -1,5 +1,5 @@
-/* Document 01's record of one station, through the C entries, document 02's marks and vacant versions on it, and its
- * longest history line: each step says what it does and what came back. Exit status 1 if a number, a length, a version, a result, the rest of an
+/* Document 01's record of one station, through the C entries, document 02's marks, vacant versions and line ends on it, and
+ * its longest history line: each step says what it does and what came back. Exit status 1 if a number, a length, a version, a result, the rest of an
  * output or the table of marks is not what the papers say. */
 #include "station_archive.h"
 
@@ -199,6 +199,19 @@ static void out_of_commission(void) {
     history("history of a station never lit", "/station", "");
 }
 
+/* One note saved on three tablets, which end lines with CR LF, CR and LF: it has one content, and no result has a CR. */
+static void tablets(void) {
+    found("found from a note with CR LF", "<station>\r\n<light>Fl 5s\r\nW</light>\r\n</station>\r\n", ARCHIVE_DONE,
+          "<T t=\"1\"><station><light>Fl 5s\nW</light></station></T>");
+    add("add it with CR", "<station>\r<light>Fl 5s\rW</light>\r</station>\r", ARCHIVE_DONE,
+        "<T t=\"1-2\"><station><light>Fl 5s\nW</light></station></T>");
+    add("add it with LF", "<station>\n<light>Fl 5s\nW</light>\n</station>\n", ARCHIVE_DONE,
+        "<T t=\"1-3\"><station><light>Fl 5s\nW</light></station></T>");
+    retrieve("retrieve 1, saved with CR LF", 1, ARCHIVE_DONE, "<station><light>Fl 5s\nW</light></station>");
+    *(uint8_t *)memchr(archive, '\n', archive_len) = '\r';
+    retrieve("retrieve from an archive that holds CR", 1, ARCHIVE_ILLEGAL, "");
+}
+
 /* The text that is given as the longest over versions 1 to n: runs of two from n downwards, with gaps of one. */
 static const char *longest_line(size_t n) {
     static char line[ARCHIVE_LENGTH_HISTORY + 1];
@@ -256,6 +269,7 @@ int main(void) {
     add("P10 add a lamp with no pos", "<station><lamp><type>A</type></lamp></station>", ARCHIVE_KEY, "");
     named_versions();
     out_of_commission();
+    tablets();
     longest_lines();
     printf("%d steps, %d not as the papers say\n", steps, wrong);
     return wrong != 0;

@@ -19,7 +19,7 @@ use Rattle.xml.specs.declared.Reply.the-variants.{Done as Reads, Wrong, Full}
 use Rattle.keys.specs.Result.{Refusal, numberOf, r5, r6, r7, r8, r9, refused, ok}
 use Rattle.keys.specs.KeyList.{KeyList}
 use Rattle.keys.specs.Version.{version, readVersion, parsed, dropWhite, tooLarge, misplaced, unkeyed, doubled, ordered}
-use Rattle.keys.specs.VersionRead.{read-rooted, readVersion-tidy}
+use Rattle.keys.specs.VersionRead.{read-rooted, readVersion-tidy, parsed-received}
 use Rattle.keys.specs.Table.{Table}
 use Rattle.keys.specs.Loading.{Tabled}
 use Rattle.keys.specs.Walks.{Walk, OfVersion, walk-top}
@@ -101,7 +101,7 @@ Unkeyed keyText table n src cells count b = OfVersion keyText table n src cells 
 -- ---- a law for each answer
 pub sent-5 : {keyText : Bytes} {table : List ℕ} {n : ℕ} {src : List ℕ} {p : ℕ} → readVersion src ≡ broken p → (K : KeyList) → Table keyText table n K → SentBack K src 5
 unfolding version parsed numberOf
-sent-5 e K t = record { row = r5; number-is = refl; later = refl; is = rw e }
+sent-5 {src = src} e K t = record { row = r5; number-is = refl; later = refl; is = rw (parsed-received src, e) }
 
 module _ {keyText : Bytes} {table : List ℕ} {n : ℕ} {src cells : List ℕ} {count : ℕ} (g : OnTape src cells count) where
   large : {b c : Bool} → Large keyText table n src cells count b → b ≡ c → (K : KeyList) → Table keyText table n K → tooLarge (dropWhite K [] (g .forest)) ≡ c
@@ -109,17 +109,17 @@ module _ {keyText : Bytes} {table : List ℕ} {n : ℕ} {src cells : List ℕ} {
 
   pub sent-6 : {b : Bool} → Large keyText table n src cells count b → b ≡ true → (K : KeyList) → Table keyText table n K → SentBack K src 6
   unfolding version parsed numberOf
-  sent-6 a e K t = record { row = r6; number-is = refl; later = refl; is = rw (g .is, large a e K t) }
+  sent-6 a e K t = record { row = r6; number-is = refl; later = refl; is = rw (parsed-received src, g .is, large a e K t) }
 
   module _ {b : Bool} (a : Large keyText table n src cells count b) (e : b ≡ false) where
     pub sent-7 : {c : Bool} → Misplaced keyText table n src cells count c → c ≡ true → (K : KeyList) → Table keyText table n K → SentBack K src 7
     unfolding version parsed numberOf
-    sent-7 m d K t = record { row = r7; number-is = refl; later = refl; is = rw (g .is, large a e K t, sym (m K t (g .forest) (g .tape)) ∙ d) }
+    sent-7 m d K t = record { row = r7; number-is = refl; later = refl; is = rw (parsed-received src, g .is, large a e K t, sym (m K t (g .forest) (g .tape)) ∙ d) }
 
     module _ {c : Bool} (m : Misplaced keyText table n src cells count c) (d : c ≡ false) where
       pub sent-8 : {u : Bool} → Unkeyed keyText table n src cells count u → u ≡ true → (K : KeyList) → Table keyText table n K → SentBack K src 8
       unfolding version parsed numberOf
-      sent-8 k h K t = record { row = r8; number-is = refl; later = refl; is = rw (g .is, large a e K t, sym (m K t (g .forest) (g .tape)) ∙ d, sym (k K t (g .forest) (g .tape)) ∙ h) }
+      sent-8 k h K t = record { row = r8; number-is = refl; later = refl; is = rw (parsed-received src, g .is, large a e K t, sym (m K t (g .forest) (g .tape)) ∙ d, sym (k K t (g .forest) (g .tape)) ∙ h) }
 
       module _ {u : Bool} (k : Unkeyed keyText table n src cells count u) (h : u ≡ false) where
         pub arrange-fit : Tabled keyText table n → VersionFit keyText table n src cells count
@@ -142,7 +142,7 @@ module _ {keyText : Bytes} {table : List ℕ} {n : ℕ} {src cells : List ℕ} {
               row = r9;
               number-is = refl;
               later = refl;
-              is = rw (g .is, large a e K t, sym (m K t (g .forest) (g .tape)) ∙ d, sym (k K t (g .forest) (g .tape)) ∙ h, x K (g .forest) t (g .tape));
+              is = rw (parsed-received src, g .is, large a e K t, sym (m K t (g .forest) (g .tape)) ∙ d, sym (k K t (g .forest) (g .tape)) ∙ h, x K (g .forest) t (g .tape));
             }
 
         pub received : {left : List ℕ} {j : ℕ} → ((K : KeyList) (f : Forest) → Table keyText table n K → Tape src cells 0 count f → Ordered K (dropWhite K [] f) src left j)
@@ -152,7 +152,7 @@ module _ {keyText : Bytes} {table : List ℕ} {n : ℕ} {src cells : List ℕ} {
             let o = x K (g .forest) t (g .tape) in
             record {
               forest = ordered K [] (dropWhite K [] (g .forest));
-              is = rw (g .is, large a e K t, sym (m K t (g .forest) (g .tape)) ∙ d, sym (k K t (g .forest) (g .tape)) ∙ h, o .single);
+              is = rw (parsed-received src, g .is, large a e K t, sym (m K t (g .forest) (g .tape)) ∙ d, sym (k K t (g .forest) (g .tape)) ∙ h, o .single);
               tape = o .tape;
               few = o .few;
             }

@@ -2,7 +2,7 @@
 use mathlib.Core.Path.{_≡_}
 use mathlib.Core.Bool.{true}
 use mathlib.Core.List.{List, [], _∷_}
-use Rattle.xml.specs.Bytes.{Bytes}
+use Rattle.xml.specs.Bytes.{Bytes, lineEnds}
 use Rattle.xml.specs.Forest.{Forest, elem, text}
 use Rattle.keys.specs.KeyList.{Path, KeyList, above}
 use Rattle.keys.specs.Version.{_▸_, VersionSpells}
@@ -23,12 +23,12 @@ pub data Alike (K : KeyList) : Path → Forest → Forest → Type 0 where
   backwards : {p : Path} {f g : Forest} → Alike K p f g → Alike K p g f
   then : {p : Path} {f g h : Forest} → Alike K p f g → Alike K p g h → Alike K p f h
 
--- demand 3's "each with its keyed siblings in any order", of two texts: the forests that they spell are alike
+-- demand 3's "each with its keyed siblings in any order", of two texts: the forests that they spell as received are alike
 pub record AnyOrder (K : KeyList) (s t : Bytes) : Type 0 where
   pub first : Forest
   pub second : Forest
-  pub first-spelled : VersionSpells s first
-  pub second-spelled : VersionSpells t second
+  pub first-spelled : VersionSpells (lineEnds s) first
+  pub second-spelled : VersionSpells (lineEnds t) second
   pub alike : Alike K [] first second
 
 -- of two lists of texts, number by number

@@ -2,7 +2,7 @@
 use mathlib.Core.Path.{_≡_, refl, sym, _∙_, ap, ap₂}
 use mathlib.Core.Bool.{true, false, _&&_}
 use mathlib.Core.List.{List, [], _∷_, map}
-use Rattle.xml.specs.Bytes.{Bytes, all, isWhite}
+use Rattle.xml.specs.Bytes.{Bytes, all, isWhite, lineEnds}
 use Rattle.xml.specs.Truth.{by-test, or-left, or-right, and-false}
 use Rattle.xml.specs.Forest.{Forest, elem, text}
 use Rattle.keys.specs.Result.{ok, r6, r7, r8, r9}
@@ -110,7 +110,7 @@ module _ (keys : Bytes) (K : KeyList) (legal : keyList keys ≡ ok K) where
       let rules = rules-kept keys K legal in
       let v = dropWhite K [] (o .first) in
       let plain = unkeyed-drop K rules [] (o .first) in
-      rw (readVersion-complete s (o .first) (o .first-spelled), readVersion-complete t (o .second) (o .second-spelled))
+      rw (readVersion-complete (lineEnds s) (o .first) (o .first-spelled), readVersion-complete (lineEnds t) (o .second) (o .second-spelled))
       (refuse-both r6 (tooLarge v) (large-alike K x) (λ _.
       refuse-both r7 (misplaced K [] v) (misplaced-alike K x) (λ h.
       refuse-both r8 (unkeyed K [] v) (plain ∙ unkeyed-alike K rules x ∙ sym (unkeyed-drop K rules [] (o .second))) (λ e.

@@ -1,17 +1,18 @@
--- Version 1 of the record of one station with its keyed siblings in another order; two vacant texts; and elements whose order counts.
+-- Version 1 of the record of one station with its keyed siblings in another order; two vacant texts; line ends; and elements whose order counts.
 use Prim.Native.Nat.{ℕ}
 use native.Mathlib.Omega.{arith}
 use mathlib.Core.Path.{_≡_, refl, sym, _∙_, ap}
 use mathlib.Core.List.{[]}
 use lib.ListN.{getD}
-use Rattle.xml.specs.Bytes.{Bytes, bytes}
+use Rattle.xml.specs.Bytes.{Bytes, bytes, lineEnds}
 use Rattle.xml.specs.Forest.{Forest, end, elem, text, write}
+use Rattle.xml.specs.Read.{whole}
 use Rattle.keys.specs.Result.{Result, refused, ok}
 use Rattle.keys.specs.ResultLaws.{ok-inj}
 use Rattle.keys.specs.KeyList.{KeyList, keyList}
-use Rattle.keys.specs.Version.{version, version-compute}
+use Rattle.keys.specs.Version.{readVersion, version, version-compute}
 use Rattle.keys.specs.VersionRead.{readVersion-sound}
-use Rattle.keys.specs.Alike.{swapped, moved, inside, beyond, as-is, backwards, then, AnyOrder}
+use Rattle.keys.specs.Alike.{Alike, swapped, moved, inside, beyond, as-is, backwards, then, AnyOrder}
 use Rattle.keys.specs.AlikeKept.{any-order}
 
 abbrev keys : Bytes
@@ -33,34 +34,34 @@ light r = elem (bytes "light") (text (bytes "Fl 5s") end) r
 abbrev lamp : Forest → Forest
 lamp r = elem (bytes "lamp") (elem (bytes "pos") (text (bytes "2") end) (elem (bytes "type") (text (bytes "A") end) (elem (bytes "hours") (text (bytes "40") end) end))) r
 
+-- texts are alike by the forests that are read of them
+by-reading : (s t : Bytes) (f g : Forest) → readVersion (lineEnds s) ≡ whole f → readVersion (lineEnds t) ≡ whole g → Alike K [] f g → AnyOrder K s t
+by-reading s t f g d e a =
+    record { first = f; second = g; first-spelled = readVersion-sound (lineEnds s) f d; second-spelled = readVersion-sound (lineEnds t) g e; alike = a }
+
 -- the lamp before the light
 pub lamp-first : AnyOrder K (bytes "<station><light>Fl 5s</light><lamp><pos>2</pos><type>A</type><hours>40</hours></lamp></station>") (bytes "<station><lamp><pos>2</pos><type>A</type><hours>40</hours></lamp><light>Fl 5s</light></station>")
 unfolding version-compute
-lamp-first =
-    record {
-      first = station (light (lamp end));
-      second = station (lamp (light end));
-      first-spelled = readVersion-sound _ _ refl;
-      second-spelled = readVersion-sound _ _ refl;
-      alike = inside (swapped refl);
-    }
+lamp-first = by-reading _ _ (station (light (lamp end))) (station (lamp (light end))) refl refl (inside (swapped refl))
 
 -- with white space between them
 pub lamp-first-spaced : AnyOrder K (bytes "<station><light>Fl 5s</light>\n<lamp><pos>2</pos><type>A</type><hours>40</hours></lamp></station>") (bytes "<station><lamp><pos>2</pos><type>A</type><hours>40</hours></lamp>\n<light>Fl 5s</light></station>")
 unfolding version-compute
 lamp-first-spaced =
-    record {
-      first = station (light (text (bytes "\n") (lamp end)));
-      second = station (lamp (text (bytes "\n") (light end)));
-      first-spelled = readVersion-sound _ _ refl;
-      second-spelled = readVersion-sound _ _ refl;
-      alike = inside (then (moved refl) (then (beyond (swapped refl)) (backwards (moved refl))));
-    }
+    by-reading _ _ (station (light (text (bytes "\n") (lamp end)))) (station (lamp (text (bytes "\n") (light end)))) refl refl
+    (inside (then (moved refl) (then (beyond (swapped refl)) (backwards (moved refl)))))
 
 -- a vacant version, empty or of white space
 pub both-vacant : AnyOrder K [] (bytes " \n")
 unfolding version-compute
-both-vacant = record { first = end; second = end; first-spelled = readVersion-sound _ _ refl; second-spelled = readVersion-sound _ _ refl; alike = as-is }
+both-vacant = by-reading _ _ end end refl refl as-is
+
+-- line ends as another tablet has them
+pub other-tablet : AnyOrder K (bytes "<station>\n<light>Fl 5s\n\n</light></station>") (bytes "<station>\r\n<light>Fl 5s\r\n\r</light></station>")
+unfolding version-compute
+other-tablet =
+    let f = station (text (bytes "\n") (elem (bytes "light") (text (bytes "Fl 5s\n\n") end) end)) in
+    by-reading _ _ f f refl refl as-is
 
 -- ---- beneath a frontier elements have their order
 abbrev ab : Bytes

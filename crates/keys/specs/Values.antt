@@ -9,8 +9,11 @@ use native.Mathlib.Omega.{arith}
 use lib.Dec.{eqb, leb}
 use lib.ListN.{length, getD}
 use lib.Seq.{slice, slice-cons, slice-empty, length-slice}
-use borrow.Author.Tests.{le-leb, lt-leb, eqb-true}
+use borrow.Author.Tests.{le-leb, lt-leb, eqb-true, eqb-false}
 use Rattle.xml.specs.Bytes.{Bytes, bytes, all, isNameByte, isValue, bytes-compute}
+use Rattle.xml.specs.GrammarLaws.{unescape-plain, unescape-joined, unescape-turned}
+use Rattle.xml.specs.Lines.{name-feed}
+use Rattle.xml.specs.NeatWritten.{name-return}
 use Rattle.xml.specs.Read.{common, further, try, entityAt, unescape}
 use Rattle.xml.specs.Truth.{clash, bool-by, by-test, and-left, and-right}
 use Rattle.xml.specs.declared.Found.{Found}
@@ -75,8 +78,18 @@ data Reads (b : ℕ) (s : Bytes) : Type 0 where
 
 reads : (b : ℕ) (s : Bytes) → Reads b s
 unfolding unescape
-reads b s = by-test (eqb b (code "&")) amp (λ e. itself (rw (e, unescape)))
+reads b s = by-test (eqb b (code "&")) amp (λ e. by-test (eqb b (code "\r")) (λ f. return s (eqb-true b (code "\r") f)) (λ f. itself (rw (e, f, unescape))))
   where
+    return : (s : Bytes) → b ≡ code "\r" → Reads b s
+    return [] f = neither (ap isNameByte f ∙ name-return) name-feed (unescape-turned b [] f (eqb-false 0 (code "\n") refl))
+    return (c ∷ s) f =
+        by-test (eqb c (code "\n"))
+        (λ g.
+        let h = eqb-true c (code "\n") g in
+        neither (ap isNameByte f ∙ name-return) (ap isNameByte h ∙ name-feed)
+        (unescape-joined b (c ∷ s) f h ∙ unescape-plain c s (λ x. eqb-false (code "\n") (code "&") refl (sym h ∙ x)) (λ x. eqb-false (code "\n") (code "\r") refl (sym h ∙ x))))
+        (λ g. neither (ap isNameByte f ∙ name-return) name-feed (unescape-turned b (c ∷ s) f (eqb-false c (code "\n") g)))
+
     amp : eqb b (code "&") ≡ true → Reads b s
     amp e = entity (entityAt s) refl (no-entity s)
       where

@@ -6,7 +6,7 @@ use mathlib.Core.Option.{Option, none, some}
 use mathlib.Core.List.{List, [], _∷_, _++_, map}
 use lib.Dec.{eqb, leb, ltb}
 use lib.ListN.{length}
-use Rattle.xml.specs.Bytes.{Bytes, bytes, all, same, isWhite, isValue}
+use Rattle.xml.specs.Bytes.{Bytes, bytes, all, same, isWhite, isValue, lineEnds}
 use Rattle.keys.specs.Result.{Result, refused, ok, _>>=_, _>>_, refuse, r5, r6, r7, r8, r9}
 use Rattle.xml.specs.Forest.{Forest, end, elem, text, stamp, write, nodes, depth}
 use Rattle.xml.specs.Grammar.{Spells}
@@ -149,10 +149,11 @@ pub data VersionSpells : Bytes → Forest → Type 0 where
 unfoldable pub readVersion : Bytes → Outcome
 readVersion s = elim (all isWhite s) [ true ↦ whole end | false ↦ read false s ]
 
--- the version of a text, in the order of its written form; 5 to 9 of the table
+-- the version of a text, in the order of its written form; 5 to 9 of the table. Q-4's "in a version CR LF and a lone CR are read as LF before
+-- all but the length test of 2": what was received is `lineEnds s`, here and in no other place, for every call that takes a version
 unfoldable pub version : KeyList → Bytes → Result Forest
 version K s = do
-  f ← parsed (readVersion s)
+  f ← parsed (readVersion (lineEnds s))
   let v = dropWhite K [] f
   refuse r6 (tooLarge v)
   refuse r7 (misplaced K [] v)

@@ -1,19 +1,22 @@
--- Reading a version's text: it accepts exactly what such a text spells, one root element or nothing, and what is written is read back.
+-- Reading a version's text: it accepts exactly what such a text spells, one root element or nothing, what is written is
+-- read back, and a raw text is read as what was received.
 use Prim.Native.Nat.{ℕ}
 use Prim.Native.Char.{code}
 use mathlib.Core.Path.{_≡_, refl, sym, _∙_, ap, subst}
 use mathlib.Core.Bool.{Bool, true, false, _&&_}
 use mathlib.Core.List.{[], _∷_, _++_, append-assoc}
-use Rattle.xml.specs.Bytes.{Bytes, bytes, all, isWhite, bytes-compute}
+use Rattle.xml.specs.Bytes.{Bytes, bytes, all, isWhite, lineEnds, bytes-compute}
 use Rattle.xml.specs.Forest.{Forest, end, elem, text, stamp, write, Tidy, Root}
 use Rattle.xml.specs.Grammar.{Content, nothing, run, element, lone, times, Spells}
-use Rattle.xml.specs.Read.{whole, read}
+use Rattle.xml.specs.Read.{Outcome, whole, broken, read}
 use Rattle.xml.specs.Sound.{read-sound}
 use Rattle.xml.specs.Complete.{read-complete}
 use Rattle.xml.specs.RoundTrip.{read-write, read-tidy}
 use Rattle.xml.specs.CompareLaws.{all-black}
+use Rattle.xml.specs.Lines.{white-lines}
+use Rattle.xml.specs.LinePlaces.{inReceived, read-received}
 use Rattle.xml.specs.Truth.{clash, by-test}
-use Rattle.keys.specs.Version.{VersionSpells, rooted, vacant, readVersion}
+use Rattle.keys.specs.Version.{VersionSpells, rooted, vacant, parsed, readVersion}
 use Rattle.keys.specs.Legal.{RootOrNone}
 
 -- ---- the two kinds of texts
@@ -85,3 +88,19 @@ readVersion-write (elem n k r) o t = read-write false (elem n k r) o t
 
 pub readVersion-same : (v w : Forest) → RootOrNone v → Tidy false v → RootOrNone w → Tidy false w → write v ≡ write w → v ≡ w
 readVersion-same v w o t p u e = whole-inj (sym (readVersion-write v o t) ∙ ap readVersion e ∙ readVersion-write w p u)
+
+-- ---- line ends
+-- THE law: a raw text is read as its received text is, the place of a refusal counted in the one and in the other
+pub readVersion-received : (s : Bytes) → readVersion (lineEnds s) ≡ inReceived s (readVersion s)
+unfolding inReceived
+readVersion-received s = by-test (all isWhite s)
+    (λ w. read-vacant (lineEnds s) (white-lines s ∙ w) ∙ ap (inReceived s) (sym (read-vacant s w)))
+    (λ b. read-rooted (lineEnds s) (white-lines s ∙ b) ∙ read-received false s ∙ ap (inReceived s) (sym (read-rooted s b)))
+
+pub parsed-received : (s : Bytes) → parsed (readVersion (lineEnds s)) ≡ parsed (readVersion s)
+unfolding inReceived parsed
+parsed-received s = ap parsed (readVersion-received s) ∙ at (readVersion s)
+  where
+    at : (o : Outcome) → parsed (inReceived s o) ≡ parsed o
+    at (whole f) = refl
+    at (broken p) = refl

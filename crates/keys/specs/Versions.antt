@@ -2,9 +2,10 @@
 use mathlib.Core.Path.{_≡_, refl, sym, _∙_, ap, subst}
 use mathlib.Core.Bool.{true, false, _&&_}
 use mathlib.Core.List.{[]}
-use Rattle.xml.specs.Bytes.{Bytes, all, isWhite, isName}
+use Rattle.xml.specs.Bytes.{Bytes, all, isWhite, isName, lineEnds}
 use Rattle.xml.specs.Forest.{Forest, end, elem, text, stamp, write, NotText, Tidy}
 use Rattle.xml.specs.Read.{Outcome, whole, broken}
+use Rattle.xml.specs.Lines.{write-lines, lines-no-return, no-return-self}
 use Rattle.keys.specs.Result.{ok, r6, r7, r8, r9}
 use Rattle.keys.specs.KeyList.{Path, KeyList, above}
 use Rattle.keys.specs.Version.{_▸_, dropWhite, tooLarge, misplaced, unkeyed, doubled, insertBy, ordered, parsed, readVersion, version}
@@ -84,17 +85,28 @@ unfolding parsed
 parsed-inv (whole g) f e = cc
 parsed-inv (broken p) f e = refused-ok e
 
--- the version of a text is legal
+-- ---- line ends
+-- a text has the version that it has once its line ends are read
+pub version-lines : (K : KeyList) (s : Bytes) → version K (lineEnds s) ≡ version K s
+unfolding version
+version-lines K s = rw (no-return-self (lineEnds s) (lines-no-return s))
+
+-- so texts that differ in their line ends alone have one version, or are refused under one number
+pub same-lines : (K : KeyList) (s t : Bytes) → lineEnds s ≡ lineEnds t → version K s ≡ version K t
+same-lines K s t e = sym (version-lines K s) ∙ ap (version K) e ∙ version-lines K t
+
+-- ---- versions that are legal
+-- the version of a text is
 pub version-legal : (K : KeyList) (s : Bytes) (v : Forest) → version K s ≡ ok v → LegalVersion K v
 unfolding version
 version-legal K s v e =
-    let f = bind-inv (parsed (readVersion s)) _ v e in
+    let f = bind-inv (parsed (readVersion (lineEnds s))) _ v e in
     let w = dropWhite K [] (f .0) in
     let x6 = passed r6 (tooLarge w) _ v (f .2) in
     let x7 = passed r7 (misplaced K [] w) _ v (x6 .1) in
     let x8 = passed r8 (unkeyed K [] w) _ v (x7 .1) in
     let x9 = passed r9 (doubled K [] w) _ v (x8 .1) in
-    let t = readVersion-tidy s (f .0) (parsed-inv (readVersion s) (f .0) (f .1)) in
+    let t = readVersion-tidy (lineEnds s) (f .0) (parsed-inv (readVersion (lineEnds s)) (f .0) (f .1)) in
     subst (LegalVersion K) (ok-inj (x9 .1))
     (ordered-legal K w (drop-tidy K [] (f .0) (t .0) .0) (drop-root K (f .0) (t .0) (t .1)) (x6 .0) (x7 .0) (x8 .0) (x9 .0))
 
@@ -102,7 +114,7 @@ version-legal K s v e =
 pub legal-version : (K : KeyList) (v : Forest) → LegalVersion K v → version K (write v) ≡ ok v
 unfolding version parsed
 legal-version K v l =
-    rw (readVersion-write v (l .root) (l .tidy), drop-placed K [] v (l .placed), l .small, l .placed, l .keyed, l .single, l .ascends)
+    rw (write-lines false v (l .tidy), readVersion-write v (l .root) (l .tidy), drop-placed K [] v (l .placed), l .small, l .placed, l .keyed, l .single, l .ascends)
 
 -- two versions with one written form are one version
 pub same-version : (K : KeyList) (v w : Forest) → LegalVersion K v → LegalVersion K w → write v ≡ write w → v ≡ w

@@ -25,7 +25,7 @@ pub fn checks(name: &[u8], keys: &[u8], work: &mut [u32]) {
     line(name, answer, b"");
 }
 
-// Founding.
+// Founding; answers the result's length.
 pub fn founds(
     name: &[u8],
     keys: &[u8],
@@ -33,10 +33,13 @@ pub fn founds(
     room: usize,
     out: &mut [u8],
     work: &mut [u32],
-) {
+) -> usize
+    ensures { λ r. ⌜ Counts r (now (out .exit)) ⌝ }
+{
     let n = within(room, out);
     let answer = found(keys, version, &mut out[..n], work);
     line(name, answer, out);
+    within(answer.length, out)
 }
 
 // Adding; answers the result's length.

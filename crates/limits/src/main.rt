@@ -1,6 +1,7 @@
 // The limits of documents 01 and 02 and each refusal, run. The second implementation (tests/reference, src/bin/limits.rs) runs the same cases: its lines are the stored ones.
 mod calls;
 mod line;
+mod line_end;
 mod longest;
 mod mark;
 mod output;
@@ -36,4 +37,5 @@ fn main() {
     mark::marks(keys, &mut a, &mut work);
     vacant::vacancies(keys, &mut text, &mut a, &mut work);
     longest::lines(keys, &mut text, &mut a, &mut work);
+    line_end::line_ends(keys, &mut text, &mut a, &mut b, &mut work);
 }

@@ -55,6 +55,7 @@ pub mod Timely
 pub mod BackText
 pub mod Standing
 pub mod Vacant
+pub mod LineEnds
 pub mod HistoryLength
 pub mod MarkLaws
 pub mod LegalKeys

@@ -7,9 +7,10 @@ use mathlib.Core.Bool.{true, false}
 use mathlib.Core.List.{List, [], _∷_, map}
 use borrow.Author.Tests.{le-ltb}
 use lib.ListN.{length, replicate, length-replicate}
-use Rattle.xml.specs.Bytes.{Bytes, all, isWhite}
+use Rattle.xml.specs.Bytes.{Bytes, all, isWhite, lineEnds}
 use Rattle.xml.specs.Forest.{Forest, end, elem, text, stamp, write, nodes, depth, Tidy, Root}
 use Rattle.xml.specs.Read.{isEnd}
+use Rattle.xml.specs.Lines.{white-lines}
 use Rattle.xml.specs.RoundTrip.{read-tidy}
 use Rattle.xml.specs.Truth.{clash, by-test, bool-by}
 use Rattle.model.specs.Gather.{gather}
@@ -44,19 +45,19 @@ module _ (K : KeyList) (s : Bytes) where
   -- "A version that is empty or white space alone is now legal"
   pub white-vacant : all isWhite s ≡ true → version K s ≡ ok end
   unfolding version parsed dropWhite tooLarge misplaced unkeyed doubled ordered depth nodes write
-  white-vacant e = rw (read-vacant s e) refl
+  white-vacant e = rw (read-vacant (lineEnds s) (white-lines s ∙ e)) refl
 
   -- and no other text is a vacant version's
   pub vacant-white : version K s ≡ ok end → all isWhite s ≡ true
   unfolding version
-  vacant-white e = by-test (all isWhite s) (λ w. w) (λ b.
-      let f = bind-inv (parsed (readVersion s)) _ end e in
+  vacant-white e = sym (white-lines s) ∙ by-test (all isWhite (lineEnds s)) (λ w. w) (λ b.
+      let f = bind-inv (parsed (readVersion (lineEnds s))) _ end e in
       let w = dropWhite K [] (f .0) in
       let x6 = passed r6 (tooLarge w) _ end (f .2) in
       let x7 = passed r7 (misplaced K [] w) _ end (x6 .1) in
       let x8 = passed r8 (unkeyed K [] w) _ end (x7 .1) in
       let x9 = passed r9 (doubled K [] w) _ end (x8 .1) in
-      let t = read-tidy false s (f .0) (sym (read-rooted s b) ∙ parsed-inv (readVersion s) (f .0) (f .1)) in
+      let t = read-tidy false (lineEnds s) (f .0) (sym (read-rooted (lineEnds s) b) ∙ parsed-inv (readVersion (lineEnds s)) (f .0) (f .1)) in
       absurd (root-kept K (f .0) (t .0) (t .1) (ok-inj (x9 .1))))
 
 -- "and holds no address"

@@ -13,12 +13,13 @@ use Rattle.xml.specs.Bytes.{Bytes, same}
 use Rattle.xml.specs.CompareLaws.{same-more, bytes-more}
 use Rattle.xml.specs.Read.{unescape}
 use Rattle.xml.specs.SameTapes.{not-false}
-use Rattle.xml.specs.SignLaws.{slice-first, unescape-plain}
+use Rattle.xml.specs.SignLaws.{slice-first}
+use Rattle.xml.specs.GrammarLaws.{unescape-plain}
 use Rattle.xml.specs.Truth.{by-test, or-left, or-right}
 
--- a byte that is not the other text's, or begins an entity
+-- a byte that is not the other text's, or begins an entity or a line end
 abbrev pub isUnlike : ℕ → ℕ → Bool
-isUnlike x y = not (eqb x y) || eqb x (code "&")
+isUnlike x y = not (eqb x y) || eqb x (code "&") || eqb x (code "\r")
 
 -- so many bytes from i and j on are alike
 pub record Alike (src₁ : Bytes) (i : ℕ) (src₂ : Bytes) (j n : ℕ) : Type 0 where
@@ -75,7 +76,7 @@ module _ (src₁ : Bytes) (e₁ : ℕ) (src₂ : Bytes) (e₂ : ℕ) (h : e₁ �
       ∙ ap₂ (λ (u v : ℕ). same (g (slice u e₁ src₁)) (g (slice v e₂ src₂))) x y
 
   alike-is : (x y : ℕ) → isUnlike x y ≡ false → x ≡ y
-  alike-is x y u = eqb-true x y (not-false (eqb x y) (or-left (not (eqb x y)) (eqb x (code "&")) u))
+  alike-is x y u = eqb-true x y (not-false (eqb x y) (or-left (not (eqb x y)) (eqb x (code "&")) (or-left (not (eqb x y) || eqb x (code "&")) (eqb x (code "\r")) u)))
 
   alike-one : (i j : ℕ) → i < e₁ → j < e₂ → isUnlike (getD src₁ i 0) (getD src₂ j 0) ≡ false
       → same (unescape 0 (slice i e₁ src₁)) (unescape 0 (slice j e₂ src₂)) ≡ same (unescape 0 (slice (i + 1) e₁ src₁)) (unescape 0 (slice (j + 1) e₂ src₂))
@@ -83,8 +84,9 @@ module _ (src₁ : Bytes) (e₁ : ℕ) (src₂ : Bytes) (e₂ : ℕ) (h : e₁ �
       let x = getD src₁ i 0 in
       let y = getD src₂ j 0 in
       let e : x ≡ y = alike-is x y u in
-      let n = eqb-false x (code "&") (or-right (not (eqb x y)) (eqb x (code "&")) u) in
-      rw (slice-first i e₁ src₁ l h, slice-first j e₂ src₂ m k, unescape-plain x (slice (i + 1) e₁ src₁) n, unescape-plain y (slice (j + 1) e₂ src₂) (λ z. n (e ∙ z)))
+      let n = eqb-false x (code "&") (or-right (not (eqb x y)) (eqb x (code "&")) (or-left (not (eqb x y) || eqb x (code "&")) (eqb x (code "\r")) u)) in
+      let o = eqb-false x (code "\r") (or-right (not (eqb x y) || eqb x (code "&")) (eqb x (code "\r")) u) in
+      rw (slice-first i e₁ src₁ l h, slice-first j e₂ src₂ m k, unescape-plain x (slice (i + 1) e₁ src₁) n o, unescape-plain y (slice (j + 1) e₂ src₂) (λ z. n (e ∙ z)) (λ z. o (e ∙ z)))
       (same-more x y _ _ e)
 
   pub onward : {i j r : ℕ} → i + r ≤ e₁ → j + r ≤ e₂ → Alike src₁ i src₂ j r → Onward src₁ i e₁ src₂ j e₂ r

@@ -2,7 +2,7 @@
 use Prim.Native.Nat.{ℕ, _<_, _≤_}
 use Prim.Native.Char.{code}
 use native.Mathlib.Omega.{arith}
-use mathlib.Core.Path.{_≡_, refl, sym, _∙_}
+use mathlib.Core.Path.{_≡_, refl, sym, _∙_, ap}
 use mathlib.Core.Bool.{Bool, true, false, not, _&&_, _||_}
 use borrow.Author.Tests.{ne-eqb, le-leb, lt-leb, eqb-true, leb-true, leb-false}
 use lib.Dec.{eqb, leb}
@@ -13,9 +13,9 @@ use Rattle.xml.specs.Read.{textByte}
 use Rattle.xml.specs.TextLaws.{byte-other}
 use Rattle.xml.specs.declared.Next.the-variants.{On}
 
--- a byte after which a text goes on, whatever stands before it: a line feed, or 0x20 to 0x7E and none of `<`, `&`, `]`, `>`
+-- a byte after which a text goes on, whatever stands before it: white space, or 0x20 to 0x7E and none of `<`, `&`, `]`, `>`
 unfoldable pub isPlain : ℕ → Bool
-isPlain b = eqb b (code "\n") || (within 0x20 0x7E b && not (among "<&]>" b))
+isPlain b = (among "\t\n\r " b || within 0x20 0x7E b) && not (among "<&]>" b)
 
 -- ---- what the five tests of a class say of a byte
 white-by : (w n d m p : Bool) →
@@ -45,7 +45,7 @@ name-by false false false true p h = refl
 name-by false false false false true h = refl
 name-by false false false false false h = refl
 
-legal-by : (w n d m p : Bool) → p ≡ true →
+legal-by : (w n d m p : Bool) → (w || p) ≡ true →
     elim (classBy w n d m p) [ illegal ↦ false | white ↦ true | start ↦ true | other ↦ true | markup ↦ true | plain ↦ true ] ≡ true
 legal-by true n d m p e = refl
 legal-by false true d m p e = refl
@@ -53,6 +53,18 @@ legal-by false false true m p e = refl
 legal-by false false false true p e = refl
 legal-by false false false false true e = refl
 legal-by false false false false false e = e
+
+special-by : (l a k g x : Bool) → (l || (a || false) || k || g || not x) ≡ not (x && not (l || (a || (k || (g || false)))))
+special-by true a k g true = refl
+special-by true a k g false = refl
+special-by false true k g true = refl
+special-by false true k g false = refl
+special-by false false true g true = refl
+special-by false false true g false = refl
+special-by false false false true true = refl
+special-by false false false true false = refl
+special-by false false false false true = refl
+special-by false false false false false = refl
 
 -- ---- white space and names
 module _ (b : ℕ) where
@@ -105,7 +117,7 @@ module _ (b : ℕ) where
   plain-digit e =
       let l = leb-true (code "0") b (and-left (leb (code "0") b) (leb b (code "9")) e) in
       let h = leb-true b (code "9") (and-right (leb (code "0") b) (leb b (code "9")) e) in
-      rw (ne-eqb b (code "\n") (λ z. omega arith), le-leb 0x20 b (omega arith), le-leb b 0x7E (omega arith), ne-eqb b (code "<") (λ z. omega arith), ne-eqb b (code "&") (λ z. omega arith), ne-eqb b (code "]") (λ z. omega arith), ne-eqb b (code ">") (λ z. omega arith))
+      rw (white-none b (omega arith), le-leb 0x20 b (omega arith), le-leb b 0x7E (omega arith), ne-eqb b (code "<") (λ z. omega arith), ne-eqb b (code "&") (λ z. omega arith), ne-eqb b (code "]") (λ z. omega arith), ne-eqb b (code ">") (λ z. omega arith))
 
   plain-lt : b ≡ code "<" → isPlain b ≡ false
   unfolding isPlain bytes-compute
@@ -129,19 +141,18 @@ module _ (b : ℕ) where
   unfolding isPlain bytes-compute
   plain-greater e = rw e
 
-  feed-legal : b ≡ code "\n" → isLegal b ≡ true
-  unfolding bytes-compute
-  feed-legal e = rw e
-
-  printed-legal : within 0x20 0x7E b ≡ true → isLegal b ≡ true
-  unfolding isLegal classOf
-  printed-legal e = legal-by (among "\t\n\r " b) (isLetter b || eqb b (code "_")) (isDigit b || among ".-" b) (among "<&" b) (within 0x20 0x7E b) e
-
   plain-legal : isPlain b ≡ true → isLegal b ≡ true
-  unfolding isPlain
+  unfolding isPlain isLegal classOf
   plain-legal e =
-      by-test (eqb b (code "\n")) (λ t. feed-legal (eqb-true b (code "\n") t))
-      (λ t. printed-legal (and-left (within 0x20 0x7E b) (not (among "<&]>" b)) (rw t at e)))
+      legal-by (among "\t\n\r " b) (isLetter b || eqb b (code "_")) (isDigit b || among ".-" b) (among "<&" b) (within 0x20 0x7E b)
+      (and-left (among "\t\n\r " b || within 0x20 0x7E b) (not (among "<&]>" b)) e)
+
+  -- the bytes that are not plain
+  pub special-is : (among "<&" b || eqb b (code "]") || eqb b (code ">") || not (isWhite b || within 0x20 0x7E b)) ≡ not (isPlain b)
+  unfolding isPlain bytes any among
+  special-is =
+      ap (λ (w : Bool). among "<&" b || eqb b (code "]") || eqb b (code ">") || not (w || within 0x20 0x7E b)) (white-is b)
+      ∙ special-by (eqb b (code "<")) (eqb b (code "&")) (eqb b (code "]")) (eqb b (code ">")) (among "\t\n\r " b || within 0x20 0x7E b)
 
 -- a text goes on after a plain byte
 pub plain-next : (q b : ℕ) (s : Bytes) → isPlain b ≡ true → textByte q b s ≡ On 0 0

@@ -7,7 +7,7 @@ use mathlib.Core.Path.{_≡_, refl}
 use mathlib.Core.Bool.{Bool, true, false, not, _&&_, _||_}
 use mathlib.Core.List.{List, [], _∷_, _++_}
 use lib.Dec.{eqb, leb}
-use lib.ListN.{length}
+use lib.ListN.{length, getD}
 
 abbrev pub Bytes : Type 0
 Bytes = List ℕ
@@ -126,6 +126,20 @@ isStart b = elim (classOf b) [ illegal ↦ false | white ↦ false | start ↦ t
 unfoldable pub isNameByte : ℕ → Bool
 isNameByte b = elim (classOf b) [ illegal ↦ false | white ↦ false | start ↦ true | other ↦ true | markup ↦ false | plain ↦ false ]
 
+-- a byte that text may mean: legal, and no CR, which is read as LF
+unfoldable pub isMeant : ℕ → Bool
+isMeant b = isLegal b && not (eqb b (code "\r"))
+
+-- XML 1.0 section 2.11, "translating both the two-character sequence #xD #xA and any #xD that is not followed by #xA to a single #xA":
+-- a CR before an LF goes, any other CR is an LF
+unfoldable pub lineEnds : Bytes → Bytes
+lineEnds [] = []
+lineEnds (b ∷ s) =
+    elim (eqb b (code "\r")) [
+      | false ↦ b ∷ lineEnds s
+      | true ↦ elim (eqb (getD s 0 0) (code "\n")) [ true ↦ lineEnds s | false ↦ code "\n" ∷ lineEnds s ]
+    ]
+
 -- "1 to 32 letters, digits, `.`, `-`, `_`": a key value
 unfoldable pub isValue : Bytes → Bool
 isValue s = leb 1 (length s) && leb (length s) 32 && all isNameByte s
@@ -141,7 +155,7 @@ isTimes b = isDigit b || among "-," b
 
 -- everything above computes where this is named on an `unfolding` line
 unfoldable pub bytes-compute : Unit {0}
-unfolding bytes any all keep distinct sameBy same isEmpty push split joinBy starts occurs among within isLetter isDigit classOf isWhite isLegal isCharacter isStart isNameByte isValue isName isTimes
+unfolding bytes any all keep distinct sameBy same isEmpty push split joinBy starts occurs among within isLetter isDigit classOf isWhite isLegal isCharacter isStart isNameByte isMeant lineEnds isValue isName isTimes
 bytes-compute = tt
 
 pub name-test : isName (bytes "x.y-1") && not (isName (bytes "1a")) && not (isName (bytes "a b")) ≡ true

@@ -15,7 +15,8 @@ use Rattle.xml.specs.Grammar.{Entity, lt, gt, amp, quot, apos}
 use Rattle.xml.specs.Read.{entityAt, unescape}
 use Rattle.xml.specs.Words.{signed}
 use Rattle.xml.specs.Truth.{by-test, not-so}
-use Rattle.xml.specs.SignLaws.{Meant, sign-means, slice-first, unescape-plain, unescape-hit, unescape-miss}
+use Rattle.xml.specs.SignLaws.{Meant, sign-means, slice-first, unescape-hit, unescape-miss}
+use Rattle.xml.specs.GrammarLaws.{unescape-plain, unescape-joined, unescape-turned}
 use Rattle.xml.specs.declared.Found.{Found}
 use Rattle.xml.specs.declared.Found.the-variants.{Hit, Miss}
 use Rattle.xml.specs.declared.text.Sign.{Sign}
@@ -97,6 +98,14 @@ amp-black : (b : ℕ) → b ≡ code "&" → isWhite b ≡ false
 unfolding bytes-compute
 amp-black b e = rw e
 
+pub return-white : (b : ℕ) → b ≡ code "\r" → isWhite b ≡ true
+unfolding bytes-compute
+return-white b e = rw e
+
+pub feed-white : isWhite (code "\n") ≡ true
+unfolding bytes-compute
+feed-white = refl
+
 pub all-black : (b : ℕ) (s : Bytes) → isWhite b ≡ false → all isWhite (b ∷ s) ≡ false
 unfolding all
 all-black b s e = rw e refl
@@ -116,9 +125,18 @@ white-meant (b ∷ s) = by-test (eqb b (code "&")) (λ t. let a = eqb-true b (co
     found a (Miss n) e = ap (all isWhite) (unescape-miss b n s a e) ∙ all-black b _ (amp-black b a)
 
     kept : all isWhite (unescape 0 s) ≡ all isWhite s → eqb b (code "&") ≡ false → all isWhite (unescape 0 (b ∷ s)) ≡ all isWhite (b ∷ s)
-    kept ih t =
-        ap (all isWhite) (unescape-plain b s (eqb-false b (code "&") t))
-        ∙ by-test (isWhite b) (λ w. all-white b (unescape 0 s) w ∙ ih ∙ sym (all-white b s w)) (λ w. all-black b (unescape 0 s) w ∙ sym (all-black b s w))
+    kept ih t = by-test (eqb b (code "\r")) (λ u. return ih (eqb-true b (code "\r") u)) (λ u. self ih t (eqb-false b (code "\r") u))
+      where
+        return : all isWhite (unescape 0 s) ≡ all isWhite s → b ≡ code "\r" → all isWhite (unescape 0 (b ∷ s)) ≡ all isWhite (b ∷ s)
+        return ih u =
+            by-test (eqb (getD s 0 0) (code "\n"))
+            (λ v. ap (all isWhite) (unescape-joined b s u (eqb-true (getD s 0 0) (code "\n") v)) ∙ ih ∙ sym (all-white b s (return-white b u)))
+            (λ v. ap (all isWhite) (unescape-turned b s u (eqb-false (getD s 0 0) (code "\n") v)) ∙ all-white (code "\n") (unescape 0 s) feed-white ∙ ih ∙ sym (all-white b s (return-white b u)))
+
+        self : all isWhite (unescape 0 s) ≡ all isWhite s → eqb b (code "&") ≡ false → (b ≡ code "\r" → ⊥) → all isWhite (unescape 0 (b ∷ s)) ≡ all isWhite (b ∷ s)
+        self ih t u =
+            ap (all isWhite) (unescape-plain b s (eqb-false b (code "&") t) u)
+            ∙ by-test (isWhite b) (λ w. all-white b (unescape 0 s) w ∙ ih ∙ sym (all-white b s w)) (λ w. all-black b (unescape 0 s) w ∙ sym (all-black b s w))
 
 module _ (src : Bytes) (i e : ℕ) (h : i < e) (k : e ≤ length src) where
   pub white-more : isWhite (getD src i 0) ≡ true → all isWhite (slice i e src) ≡ all isWhite (slice (i + 1) e src)

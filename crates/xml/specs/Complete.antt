@@ -99,7 +99,7 @@ not-end : {A : Type 0} (f : Forest) → isEnd f ≡ false → f ≡ end → A
 unfolding isEnd
 not-end f e h = clash (sym (ap isEnd h) ∙ e)
 
-content-end : {a : Bool} {u : Bytes} {r : Forest} → Content a u r → r ≡ end → u ≡ []
+pub content-end : {a : Bool} {u : Bytes} {r : Forest} → Content a u r → r ≡ end → u ≡ []
 unfolding isEnd
 content-end nothing e = refl
 content-end (run {t = t} {r = r} c e o n d) h = not-end (text t r) refl h

@@ -5,7 +5,7 @@ use mathlib.Core.Path.{_≡_, refl}
 use mathlib.Core.Bool.{Bool, true, false, not, _&&_, _||_}
 use mathlib.Core.List.{List, [], _∷_, _++_}
 use lib.Dec.{eqb}
-use Rattle.xml.specs.Bytes.{Bytes, bytes, all, same, isEmpty, isLegal, isName, isTimes, bytes-compute}
+use Rattle.xml.specs.Bytes.{Bytes, bytes, all, same, isEmpty, isMeant, isName, isTimes, bytes-compute}
 
 -- an element with what it holds, a run of text, or an archive's `<T t="..">`, each with the siblings after it
 pub data Forest : Type 0 where
@@ -84,7 +84,7 @@ NotText (stamp t k r) = Unit {0}
 abbrev pub Tidy : Bool → Forest → Type 0
 Tidy a end = Unit {0}
 Tidy a (elem n k r) = (isName n ≡ true) × Tidy a k × Tidy a r
-Tidy a (text b r) = (isEmpty b ≡ false) × (all isLegal b ≡ true) × NotText r × Tidy a r
+Tidy a (text b r) = (isEmpty b ≡ false) × (all isMeant b ≡ true) × NotText r × Tidy a r
 Tidy a (stamp t k r) = (a ≡ true) × (all isTimes t ≡ true) × Tidy a k × Tidy a r
 
 -- one element, or one archive's `T`

@@ -11,7 +11,7 @@ use lib.ListN.{length, take, drop, getD, length-append}
 use lib.Seq.{take-append-seam, drop-append-seam, getD-append-seam, getD-append-add, drop-append-add}
 use Rattle.xml.specs.Bytes.{Bytes, bytes, all, isEmpty, isNameByte, isName, isTimes, isWhite, bytes-compute}
 use Rattle.xml.specs.Forest.{Forest, end, elem, text, join}
-use Rattle.xml.specs.Grammar.{Entity, lt, gt, amp, quot, apos, Characters, none, kept, entity}
+use Rattle.xml.specs.Grammar.{Entity, lt, gt, amp, quot, apos, Characters, none, kept, joined, turned, entity}
 use Rattle.xml.specs.Read.{common, timesLen, scan, unescape, Tag, named, timed, tagName, tagNode, Stack, outer, inside, move, timesEnd, startOf, startTag, endOf, characters, step, go, read-compute}
 use Rattle.xml.specs.Truth.{clash, both-true}
 use Rattle.xml.specs.GrammarLaws.{lt-markup, character-not, characters-mean}
@@ -153,7 +153,9 @@ starts-entity s apos = record { first = code "&"; more = _; is = refl; other = �
 starts : {s t : Bytes} → Characters s t → isEmpty s ≡ false → Starts s
 unfolding isEmpty
 starts none e = clash e
-starts (kept {b = b} {s = s} x c) e = record { first = b; more = s; is = refl; other = character-not b (code "<") lt-markup x }
+starts (kept {b = b} {s = s} x n c) e = record { first = b; more = s; is = refl; other = character-not b (code "<") lt-markup x }
+starts (joined {b = b} {s = s} x f c) e = record { first = b; more = s; is = refl; other = λ y. eqb-false (code "\r") (code "<") refl (sym x ∙ y) }
+starts (turned {b = b} {s = s} x f c) e = record { first = b; more = s; is = refl; other = λ y. eqb-false (code "\r") (code "<") refl (sym x ∙ y) }
 starts (entity {s = s} x c) e = starts-entity s x
 
 pub goes-text : {w v : Bytes} (a : Bool) (o : Tag) (g : Forest) (st : Stack) (f : Forest) (u : Bytes) → Characters w v → isEmpty w ≡ false → Clear 0 w →

@@ -4,6 +4,7 @@ use Prim.Native.Char.{code}
 use mathlib.Core.Path.{_≡_}
 use mathlib.Core.Bool.{Bool, true, false}
 use mathlib.Core.List.{List, [], _∷_, _++_}
+use lib.ListN.{getD}
 use Rattle.xml.specs.Bytes.{Bytes, bytes, all, isEmpty, occurs, isWhite, isCharacter, isName, isTimes}
 use Rattle.xml.specs.Forest.{Forest, end, elem, text, stamp, NotText, Root}
 
@@ -15,10 +16,14 @@ pub data Entity : Bytes → ℕ → Type 0 where
   quot : Entity (bytes "&quot;") (code "\"")
   apos : Entity (bytes "&apos;") (code "'")
 
--- "Text is bytes 20 to 7E hexadecimal, tab, LF and CR, each kept as it is; `<` and `&` only as markup": raw bytes, and what they mean
+-- "Text is bytes 20 to 7E hexadecimal, tab, LF and CR, each kept as it is; `<` and `&` only as markup"; "CR LF and a lone CR are read as LF":
+-- raw bytes, and what they mean
 pub data Characters : Bytes → Bytes → Type 0 where
   none : Characters [] []
-  kept : {b : ℕ} {s t : Bytes} → isCharacter b ≡ true → Characters s t → Characters (b ∷ s) (b ∷ t)
+  kept : {b : ℕ} {s t : Bytes} → isCharacter b ≡ true → (b ≡ code "\r" → ⊥) → Characters s t → Characters (b ∷ s) (b ∷ t)
+  -- a CR before an LF means nothing, any other means LF
+  joined : {b : ℕ} {s t : Bytes} → b ≡ code "\r" → getD s 0 0 ≡ code "\n" → Characters s t → Characters (b ∷ s) t
+  turned : {b : ℕ} {s t : Bytes} → b ≡ code "\r" → (getD s 0 0 ≡ code "\n" → ⊥) → Characters s t → Characters (b ∷ s) (code "\n" ∷ t)
   entity : {e : Bytes} {c : ℕ} {s t : Bytes} → Entity e c → Characters s t → Characters (e ++ s) (c ∷ t)
 
 -- "An element holds content and content holds elements": a text, and the forest that it spells; `a` where the text is an archive's

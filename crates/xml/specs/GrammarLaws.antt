@@ -4,12 +4,13 @@ use Prim.Native.Char.{code}
 use native.Mathlib.Omega.{arith}
 use mathlib.Core.Path.{_≡_, refl, ap, sym, _∙_}
 use mathlib.Core.Bool.{Bool, true, false, _&&_, _||_}
-use mathlib.Core.List.{_∷_, _++_}
-use borrow.Author.Tests.{ne-eqb}
+use mathlib.Core.List.{[], _∷_, _++_}
+use borrow.Author.Tests.{ne-eqb, eq-eqb, eqb-false}
 use lib.Dec.{eqb}
-use Rattle.xml.specs.Bytes.{Bytes, bytes, all, isEmpty, Class, illegal, white, start, other, markup, plain, classOf, among, within, isLetter, isDigit, isLegal, isCharacter, bytes-compute}
+use lib.ListN.{getD}
+use Rattle.xml.specs.Bytes.{Bytes, bytes, all, isEmpty, Class, illegal, white, start, other, markup, plain, classOf, among, within, isLetter, isDigit, isLegal, isCharacter, isMeant, bytes-compute}
 use Rattle.xml.specs.Truth.{both, clash, neither}
-use Rattle.xml.specs.Grammar.{Entity, lt, gt, amp, quot, apos, Characters, none, kept, entity}
+use Rattle.xml.specs.Grammar.{Entity, lt, gt, amp, quot, apos, Characters, none, kept, joined, turned, entity}
 use Rattle.xml.specs.Read.{unescape, read-compute}
 
 -- ---- bytes that stand for themselves
@@ -61,7 +62,7 @@ legal-character b n m l =
     (neither (ne-eqb b (code "<") n) (neither (ne-eqb b (code "&") m) refl)) l
 
 -- ---- what characters mean
-entity-legal : {e : Bytes} {c : ℕ} → Entity e c → isLegal c ≡ true
+entity-legal : {e : Bytes} {c : ℕ} → Entity e c → isMeant c ≡ true
 unfolding bytes-compute
 entity-legal lt = refl
 entity-legal gt = refl
@@ -69,16 +70,34 @@ entity-legal amp = refl
 entity-legal quot = refl
 entity-legal apos = refl
 
-pub characters-legal : {s t : Bytes} → Characters s t → all isLegal t ≡ true
+pub legal-meant : (b : ℕ) → isLegal b ≡ true → (b ≡ code "\r" → ⊥) → isMeant b ≡ true
+unfolding isMeant
+legal-meant b l n = rw (l, ne-eqb b (code "\r") n)
+
+feed-meant : isMeant (code "\n") ≡ true
+unfolding bytes-compute
+feed-meant = refl
+
+pub characters-legal : {s t : Bytes} → Characters s t → all isMeant t ≡ true
 unfolding all
 characters-legal none = refl
-characters-legal (kept {b = b} e c) = both (character-legal b e) (characters-legal c)
+characters-legal (kept {b = b} e n c) = both (legal-meant b (character-legal b e) n) (characters-legal c)
+characters-legal (joined e f c) = characters-legal c
+characters-legal (turned e f c) = both feed-meant (characters-legal c)
 characters-legal (entity e c) = both (entity-legal e) (characters-legal c)
+
+-- a text that begins with an LF is not empty
+pub feed-some : (s : Bytes) → getD s 0 0 ≡ code "\n" → isEmpty s ≡ false
+unfolding isEmpty
+feed-some [] e = absurd (eqb-false 0 (code "\n") refl e)
+feed-some (b ∷ s) e = refl
 
 pub characters-some : {s t : Bytes} → Characters s t → isEmpty s ≡ false → isEmpty t ≡ false
 unfolding isEmpty
 characters-some none e = e
-characters-some (kept x c) e = refl
+characters-some (kept x n c) e = refl
+characters-some (joined {s = s} x f c) e = characters-some c (feed-some s f)
+characters-some (turned x f c) e = refl
 characters-some (entity x c) e = refl
 
 -- an entity, and reading over it
@@ -90,12 +109,26 @@ unescape-entity s amp = refl
 unescape-entity s quot = refl
 unescape-entity s apos = refl
 
-unescape-kept : (b : ℕ) (s : Bytes) → isCharacter b ≡ true → unescape 0 (b ∷ s) ≡ b ∷ unescape 0 s
+-- a byte of a run that begins no entity
+pub unescape-plain : (b : ℕ) (s : Bytes) → (b ≡ code "&" → ⊥) → (b ≡ code "\r" → ⊥) → unescape 0 (b ∷ s) ≡ b ∷ unescape 0 s
 unfolding unescape
-unescape-kept b s e = rw (ne-eqb b (code "&") (character-not b (code "&") amp-markup e), unescape)
+unescape-plain b s n m = rw (ne-eqb b (code "&") n, ne-eqb b (code "\r") m, unescape)
+
+return-amp : (b : ℕ) → b ≡ code "\r" → b ≡ code "&" → ⊥
+return-amp b e x = eqb-false (code "\r") (code "&") refl (sym e ∙ x)
+
+pub unescape-joined : (b : ℕ) (s : Bytes) → b ≡ code "\r" → getD s 0 0 ≡ code "\n" → unescape 0 (b ∷ s) ≡ unescape 0 s
+unfolding unescape
+unescape-joined b s e f = rw (ne-eqb b (code "&") (return-amp b e), eq-eqb b (code "\r") e, eq-eqb (getD s 0 0) (code "\n") f, unescape)
+
+pub unescape-turned : (b : ℕ) (s : Bytes) → b ≡ code "\r" → (getD s 0 0 ≡ code "\n" → ⊥) → unescape 0 (b ∷ s) ≡ code "\n" ∷ unescape 0 s
+unfolding unescape
+unescape-turned b s e f = rw (ne-eqb b (code "&") (return-amp b e), eq-eqb b (code "\r") e, ne-eqb (getD s 0 0) (code "\n") f, unescape)
 
 pub characters-mean : {s t : Bytes} → Characters s t → unescape 0 s ≡ t
 unfolding unescape
 characters-mean none = refl
-characters-mean (kept {b = b} {s = s} e c) = unescape-kept b s e ∙ ap (b ∷_) (characters-mean c)
+characters-mean (kept {b = b} {s = s} e n c) = unescape-plain b s (character-not b (code "&") amp-markup e) n ∙ ap (b ∷_) (characters-mean c)
+characters-mean (joined {b = b} {s = s} e f c) = unescape-joined b s e f ∙ characters-mean c
+characters-mean (turned {b = b} {s = s} e f c) = unescape-turned b s e f ∙ ap (code "\n" ∷_) (characters-mean c)
 characters-mean (entity {c = c} {s = s} e d) = unescape-entity s e ∙ ap (c ∷_) (characters-mean d)

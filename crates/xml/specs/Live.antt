@@ -162,6 +162,10 @@ go-le a (b ∷ s) st f at zero p e = turned (step a st f (b ∷ s)) (step-in a s
     turned (move st′ f′ k) i e g = omega (arith, g st′ f′ k e)
     turned (wrong k) i e g = omega (arith, bad-is (at + k) p e)
 
+pub read-le : (a : Bool) (s : Bytes) (p : ℕ) → read a s ≡ broken p → p ≤ length s
+unfolding read
+read-le a s p e = omega (arith, go-le a s outer end 0 0 p e)
+
 record Lives (a : Bool) (st : Stack) (f : Forest) (at k p : ℕ) (s : Bytes) : Type 0 where
   add : Bytes
   forest : Forest

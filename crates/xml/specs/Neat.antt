@@ -1,5 +1,5 @@
 -- A text that can be read is spelled as its forest is written where nothing in it is spelled otherwise: no white space around the root, no
--- `<a/>`, no bare `>` in text, no `&quot;` or `&apos;`. Counts tell it: an `<a/>` has one `<` in place of two, a bare `>` is one `>` more
+-- `<a/>`, no bare `>` in text, no `&quot;` or `&apos;`, no CR. Counts tell it: an `<a/>` has one `<` in place of two, a bare `>` is one `>` more
 -- (NeatSpelled.antt, `neat-spelled` and `spelled-neat`).
 use Prim.Native.Nat.{ℕ, zero, suc, _+_, _*_, _-_, _%_}
 use Prim.Native.Char.{code}
@@ -21,11 +21,11 @@ unfoldable pub count : ℕ → Bytes → ℕ
 count b [] = 0
 count b (c ∷ s) = one (eqb c b) + count b s
 
--- `&` with `q` or `ap` after it: `&quot;` and `&apos;`, in a text that can be read
+-- `&` with `q` or `ap` after it, which is `&quot;` or `&apos;` in a text that can be read, or CR
 abbrev pub isOther : ℕ → ℕ → ℕ → Bool
-isOther a b c = eqb a (code "&") && (eqb b (code "q") || (eqb b (code "a") && eqb c (code "p")))
+isOther a b c = (eqb a (code "&") && (eqb b (code "q") || (eqb b (code "a") && eqb c (code "p")))) || eqb a (code "\r")
 
--- some `&` of a text is so
+-- some byte of a text is so
 unfoldable pub others : Bytes → Bool
 others [] = false
 others (a ∷ s) = isOther a (getD s 0 0) (getD s 1 0) || others s

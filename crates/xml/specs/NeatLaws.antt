@@ -1,7 +1,8 @@
 -- Laws of the counts: of a text in two parts, at a place of a text, and of the nodes of a tape.
 use Prim.Native.Nat.{ℕ, _+_, _%_, _<_, _≤_}
-use mathlib.Core.Path.{_≡_, ap, ap₂, sym, _∙_}
-use mathlib.Core.Bool.{Bool, true, false, _||_}
+use Prim.Native.Char.{code}
+use mathlib.Core.Path.{_≡_, refl, ap, ap₂, sym, _∙_}
+use mathlib.Core.Bool.{Bool, true, false, _&&_, _||_}
 use mathlib.Core.List.{List, [], _∷_, _++_}
 use native.Mathlib.Numerals.{add-one}
 use native.Mathlib.Omega.{arith}
@@ -12,7 +13,7 @@ use lib.Seq.{drop-cons, getD-drop}
 use Rattle.xml.specs.Bytes.{Bytes}
 use Rattle.xml.specs.Forest.{Forest}
 use Rattle.xml.specs.Tape.{headAt, Tape, at-end, at-text, at-elem, at-stamp}
-use Rattle.xml.specs.Truth.{or-right}
+use Rattle.xml.specs.Truth.{or-left, or-right}
 use Rattle.xml.specs.Neat.{one, count, isOther, others, tags, tagsBelow}
 
 -- ---- in two parts
@@ -31,6 +32,16 @@ others-right [] t e = e
 others-right (a ∷ s) t e = others-right s t (or-right (isOther a (getD (s ++ t) 0 0) (getD (s ++ t) 1 0)) (others (s ++ t)) e)
 
 -- ---- at a place of a text
+-- a text of which no byte is so has no CR
+pub others-returns : (s : Bytes) → others s ≡ false → count (code "\r") s ≡ 0
+unfolding others count
+others-returns [] e = refl
+others-returns (a ∷ s) e =
+    let y = getD s 0 0 in
+    let z = getD s 1 0 in
+    let m = eqb a (code "&") && (eqb y (code "q") || (eqb y (code "a") && eqb z (code "p"))) in
+    rw (or-right m (eqb a (code "\r")) (or-left (isOther a y z) (others s) e)) (omega (arith, others-returns s (or-right (isOther a y z) (others s) e)))
+
 pub count-most : (b : ℕ) (s : Bytes) → count b s ≤ length s
 unfolding count
 count-most b [] = omega arith

@@ -49,13 +49,17 @@ entityAt s =
     try (bytes "lt;") (code "<") s (try (bytes "gt;") (code ">") s (try (bytes "amp;") (code "&") s
     (try (bytes "quot;") (code "\"") s (try (bytes "apos;") (code "'") s (Miss 0)))))
 
--- the bytes that a run means; k of its bytes are to be skipped
+-- the bytes that a run means, line ends read as LF; k of its bytes are to be skipped
 unfoldable pub unescape : ℕ → Bytes → Bytes
 unescape k [] = []
 unescape (suc k) (b ∷ s) = unescape k s
 unescape zero (b ∷ s) =
     elim (eqb b (code "&")) [
-      | false ↦ b ∷ unescape 0 s
+      | false ↦
+          elim (eqb b (code "\r")) [
+            | false ↦ b ∷ unescape 0 s
+            | true ↦ elim (eqb (getD s 0 0) (code "\n")) [ true ↦ unescape 0 s | false ↦ code "\n" ∷ unescape 0 s ]
+          ]
       | true ↦
           elim (entityAt s) [ Hit n c ↦ c ∷ unescape n s | Miss n ↦ b ∷ unescape 0 s ]
     ]

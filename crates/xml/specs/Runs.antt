@@ -8,9 +8,9 @@ use mathlib.Core.Bool.{true}
 use mathlib.Core.List.{[], _∷_, _++_, append-assoc}
 use borrow.Author.Tests.{eqb-true, eqb-false, leb-true, leb-false}
 use lib.Dec.{eqb, leb}
-use lib.ListN.{length, drop, length-append}
+use lib.ListN.{length, drop, getD, length-append}
 use Rattle.xml.specs.Bytes.{Bytes, isCharacter, bytes-compute}
-use Rattle.xml.specs.Grammar.{Entity, lt, gt, amp, quot, apos, Characters, none, kept, entity}
+use Rattle.xml.specs.Grammar.{Entity, lt, gt, amp, quot, apos, Characters, none, kept, joined, turned, entity}
 use Rattle.xml.specs.Read.{scan, textByte, read-compute}
 use Rattle.xml.specs.Truth.{by-test}
 use Rattle.xml.specs.GrammarLaws.{character-not, lt-markup, amp-markup, character-legal}
@@ -62,13 +62,23 @@ byte-kept q b s t e k =
 scan-on : (q n b p : ℕ) (s : Bytes) → textByte q b s ≡ On 0 p → scan q 0 n (b ∷ s) ≡ scan p 0 (n + 1) s
 scan-on q n b p s e = rw (scan-cons, e)
 
-pub scan-characters : {s t : Bytes} (q n : ℕ) (u : Bytes) → Characters s t → Clear q s → scan q 0 n (s ++ code "<" ∷ u) ≡ Upto (n + length s)
-scan-characters q n u none k = scan-lt q n u ∙ ap Upto (sym (add-zero n))
-scan-characters q n u (kept {b = b} {s = s} e c) k =
+return-kept : (b : ℕ) → b ≡ code "\r" → isCharacter b ≡ true
+unfolding bytes-compute
+return-kept b e = rw e
+
+one-more : (q n b : ℕ) (s u : Bytes) → isCharacter b ≡ true → Clear q (b ∷ s)
+    → ((p : ℕ) → Clear p s → scan p 0 (n + 1) (s ++ code "<" ∷ u) ≡ Upto (n + 1 + length s)) → scan q 0 n (b ∷ (s ++ code "<" ∷ u)) ≡ Upto (n + suc (length s))
+one-more q n b s u e k f =
     let v = s ++ code "<" ∷ u in
     let x = byte-kept q b v s e k in
     let m : n + 1 + length s ≡ n + suc (length s) = omega arith in
-    scan-on q n b (x .0) v (x .1) ∙ scan-characters (x .0) (n + 1) u c (x .2) ∙ ap Upto m
+    scan-on q n b (x .0) v (x .1) ∙ f (x .0) (x .2) ∙ ap Upto m
+
+pub scan-characters : {s t : Bytes} (q n : ℕ) (u : Bytes) → Characters s t → Clear q s → scan q 0 n (s ++ code "<" ∷ u) ≡ Upto (n + length s)
+scan-characters q n u none k = scan-lt q n u ∙ ap Upto (sym (add-zero n))
+scan-characters q n u (kept {b = b} {s = s} e o c) k = one-more q n b s u e k (λ p l. scan-characters p (n + 1) u c l)
+scan-characters q n u (joined {b = b} {s = s} e f c) k = one-more q n b s u (return-kept b e) k (λ p l. scan-characters p (n + 1) u c l)
+scan-characters q n u (turned {b = b} {s = s} e f c) k = one-more q n b s u (return-kept b e) k (λ p l. scan-characters p (n + 1) u c l)
 scan-characters q n u (entity {e = e} {s = s} i c) k =
     let m : n + length e + length s ≡ n + length (e ++ s) = omega (arith, length-append e s) in
     ap (scan q 0 n) (append-assoc e s (code "<" ∷ u)) ∙ scan-entity q n (s ++ code "<" ∷ u) i
@@ -104,21 +114,30 @@ scanned-bracket q n m s r =
       meaning = code "]" ∷ r .meaning;
       is = ap (code "]" ∷_) (r .is);
       long = omega arith;
-      means = kept refl (r .means);
+      means = kept refl (eqb-false (code "]") (code "\r") refl) (r .means);
       clear = clear-bracket q (r .raw) (r .clear);
       ends = r .ends;
     }
 
+-- a character more before a run
+pub meant-more : (b : ℕ) (s t : Bytes) → isCharacter b ≡ true → Characters s t → (u : Bytes) × Characters (b ∷ s) u
+meant-more b s t e c =
+    by-test (eqb b (code "\r"))
+    (λ x. by-test (eqb (getD s 0 0) (code "\n")) (λ y. (t, joined (eqb-true b (code "\r") x) (eqb-true (getD s 0 0) (code "\n") y) c))
+    (λ y. (code "\n" ∷ t, turned (eqb-true b (code "\r") x) (eqb-false (getD s 0 0) (code "\n") y) c)))
+    (λ x. (b ∷ t, kept e (eqb-false b (code "\r") x) c))
+
 scanned-kept : (q n m b : ℕ) (s : Bytes) → isCharacter b ≡ true → (b ≡ code "]" → ⊥) → (b ≡ code ">" → q < 2) → Scanned 0 (n + 1) m s → Scanned q n m (b ∷ s)
 scanned-kept q n m b s e x y r =
     let l = r .long in
+    let c = meant-more b (r .raw) (r .meaning) e (r .means) in
     record {
       raw = b ∷ r .raw;
       rest = r .rest;
-      meaning = b ∷ r .meaning;
+      meaning = c .0;
       is = ap (b ∷_) (r .is);
       long = omega arith;
-      means = kept e (r .means);
+      means = c .1;
       clear = clear-other q b (r .raw) x y (r .clear);
       ends = r .ends;
     }

@@ -119,3 +119,33 @@ times-end = refl
 pub times-no-end : read true (bytes "<T t=\"1\">") ≡ broken 9
 unfolding read-compute
 times-no-end = refl
+
+-- line ends: LF, CR LF and CR are one content; a CR before a CR LF is a line of its own
+pub lines-feed : read false (bytes "<a>x\ny\n</a>") ≡ whole (elem (bytes "a") (text (bytes "x\ny\n") end) end)
+unfolding read-compute
+lines-feed = refl
+
+pub lines-pair : read false (bytes "<a>x\r\ny\r\n</a>") ≡ whole (elem (bytes "a") (text (bytes "x\ny\n") end) end)
+unfolding read-compute
+lines-pair = refl
+
+pub lines-return : read false (bytes "<a>x\ry\r</a>") ≡ whole (elem (bytes "a") (text (bytes "x\ny\n") end) end)
+unfolding read-compute
+lines-return = refl
+
+pub lines-mixed : read false (bytes "\r\n<a>\r\r\n&lt;\r&gt;\n\r</a>\r") ≡ whole (elem (bytes "a") (text (bytes "\n\n<\n>\n\n") end) end)
+unfolding read-compute
+lines-mixed = refl
+
+-- a CR in a tag is wrong where an LF is; places count bytes as received
+pub lines-tag : read false (bytes "\r\n<a\r\n></a>") ≡ broken 4
+unfolding read-compute
+lines-tag = refl
+
+pub lines-place : read false (bytes "<a>\r\n\r\n]]></a>") ≡ broken 9
+unfolding read-compute
+lines-place = refl
+
+pub lines-early : read false (bytes "<a>\r\n\r") ≡ broken 6
+unfolding read-compute
+lines-early = refl

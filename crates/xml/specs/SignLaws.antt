@@ -5,16 +5,18 @@ use mathlib.Core.Path.{_≡_, refl, ap, ap₂, sym, _∙_, subst}
 use mathlib.Core.Bool.{Bool, true, false, _||_}
 use mathlib.Core.List.{[], _∷_, _++_, append-nil}
 use native.Mathlib.Numerals.{add-one}
+use native.Mathlib.Nat.{add-zero}
 use native.Mathlib.Omega.{arith}
 use lib.Dec.{eqb}
 use lib.ListN.{length, take, drop, getD}
-use lib.Seq.{slice, drop-cons, drop-drop, length-take-le, length-slice, getD-take, slice-empty, take-take}
+use lib.Seq.{slice, drop-cons, drop-drop, length-take-le, length-slice, getD-take, getD-drop, slice-empty, take-take}
 use borrow.Author.Tests.{eq-eqb, ne-eqb, eqb-true, eqb-false}
 use Rattle.xml.specs.Bytes.{Bytes, bytes, any, among}
 use Rattle.xml.specs.Forest.{escape}
 use Rattle.xml.specs.Read.{entityAt, unescape}
+use Rattle.xml.specs.GrammarLaws.{unescape-plain, unescape-joined, unescape-turned}
 use Rattle.xml.specs.ScanLaws.{foundLen, entity-fits}
-use Rattle.xml.specs.Signs.{spelt, isMarked, plainLen, signFound, signAt}
+use Rattle.xml.specs.Signs.{spelt, isMarked, plainLen, signFound, signReturn, signAt}
 use Rattle.xml.specs.TapeLaws.{slice-part, length-escape, length-unescape}
 use Rattle.xml.specs.Truth.{or-left, or-right, by-test}
 use Rattle.xml.specs.declared.Found.{Found}
@@ -38,10 +40,6 @@ unescape-skip zero s = refl
 unescape-skip (suc k) [] = refl
 unescape-skip (suc k) (b ∷ s) = unescape-skip k s
 
-pub unescape-plain : (b : ℕ) (s : Bytes) → (b ≡ code "&" → ⊥) → unescape 0 (b ∷ s) ≡ b ∷ unescape 0 s
-unfolding unescape
-unescape-plain b s n = rw (ne-eqb b (code "&") n, unescape)
-
 pub unescape-hit : (b n c : ℕ) (s : Bytes) → b ≡ code "&" → entityAt s ≡ Hit n c → unescape 0 (b ∷ s) ≡ c ∷ unescape 0 (drop n s)
 unfolding unescape
 unescape-hit b n c s e h = rw (eq-eqb b (code "&") e, h, unescape) (ap (λ (x : Bytes). c ∷ x) (unescape-skip n s))
@@ -50,9 +48,24 @@ pub unescape-miss : (b n : ℕ) (s : Bytes) → b ≡ code "&" → entityAt s �
 unfolding unescape
 unescape-miss b n s e h = rw (eq-eqb b (code "&") e, h, unescape)
 
-pub sign-plain : (i b : ℕ) (s : Bytes) → (b ≡ code "&" → ⊥) → signAt i (b ∷ s) ≡ record { byte = b; next = i + 1 }
+pub sign-plain : (i b : ℕ) (s : Bytes) → (b ≡ code "&" → ⊥) → (b ≡ code "\r" → ⊥) → signAt i (b ∷ s) ≡ record { byte = b; next = i + 1 }
 unfolding signAt
-sign-plain i b s n = rw (ne-eqb b (code "&") n, signAt)
+sign-plain i b s n m = rw (ne-eqb b (code "&") n, ne-eqb b (code "\r") m, signAt)
+
+pub sign-return : (i b : ℕ) (s : Bytes) → b ≡ code "\r" → signAt i (b ∷ s) ≡ signReturn i s
+unfolding signAt
+sign-return i b s e = rw (ne-eqb b (code "&") (λ x. eqb-false (code "\r") (code "&") refl (sym e ∙ x)), eq-eqb b (code "\r") e, signAt)
+
+-- what a CR at i means, by the byte after it, where the run ends at e
+module _ (i e : ℕ) (src : Bytes) where
+  after-return : getD (slice (i + 1) e src) 0 0 ≡ getD (take e src) (i + 1) 0
+  after-return = getD-drop (i + 1) (take e src) 0 0 ∙ ap (λ (n : ℕ). getD (take e src) n 0) (add-zero (i + 1))
+
+  pub return-joined : getD (take e src) (i + 1) 0 ≡ code "\n" → signReturn i (slice (i + 1) e src) ≡ record { byte = code "\n"; next = i + 2 }
+  return-joined h = rw (eq-eqb (getD (slice (i + 1) e src) 0 0) (code "\n") (after-return ∙ h))
+
+  pub return-turned : (getD (take e src) (i + 1) 0 ≡ code "\n" → ⊥) → signReturn i (slice (i + 1) e src) ≡ record { byte = code "\n"; next = i + 1 }
+  return-turned h = rw (ne-eqb (getD (slice (i + 1) e src) 0 0) (code "\n") (λ x. h (sym after-return ∙ x)))
 
 pub sign-amp : (i b : ℕ) (s : Bytes) → b ≡ code "&" → signAt i (b ∷ s) ≡ signFound i b (entityAt s)
 unfolding signAt
@@ -65,13 +78,44 @@ pub record Meant (src : Bytes) (i e : ℕ) (g : Sign) : Type 0 where
   pub inside : g .next ≤ e
 
 module _ (src : Bytes) (i e : ℕ) (h : i < e) (k : e ≤ length src) where
-  meant-plain : (getD src i 0 ≡ code "&" → ⊥) → Meant src i e (record { byte = getD src i 0; next = i + 1 })
-  meant-plain n =
+  meant-plain : (getD src i 0 ≡ code "&" → ⊥) → (getD src i 0 ≡ code "\r" → ⊥) → Meant src i e (record { byte = getD src i 0; next = i + 1 })
+  meant-plain n m =
       record {
-        means = rw (slice-first i e src h k) (unescape-plain (getD src i 0) (slice (i + 1) e src) n);
+        means = rw (slice-first i e src h k) (unescape-plain (getD src i 0) (slice (i + 1) e src) n m);
         forward = omega arith;
         inside = omega arith;
       }
+
+  -- CR LF, and a lone CR
+  meant-joined : getD src i 0 ≡ code "\r" → getD (slice (i + 1) e src) 0 0 ≡ code "\n" → Meant src i e (record { byte = code "\n"; next = i + 2 })
+  meant-joined a b =
+      let l : i + 1 < e = some-left (slice (i + 1) e src) refl b in
+      let f = slice-first (i + 1) e src l k in
+      let c : getD src (i + 1) 0 ≡ code "\n" = sym (ap (λ (s : Bytes). getD s 0 0) f) ∙ b in
+      let z : i + 1 + 1 ≡ i + 2 = omega arith in
+      record {
+        means = ap (unescape 0) (slice-first i e src h k) ∙ unescape-joined (getD src i 0) (slice (i + 1) e src) a b
+            ∙ ap (unescape 0) f ∙ unescape-plain (getD src (i + 1) 0) (slice (i + 1 + 1) e src) (λ x. eqb-false (code "\n") (code "&") refl (sym c ∙ x)) (λ x. eqb-false (code "\n") (code "\r") refl (sym c ∙ x))
+            ∙ ap₂ (λ (x n : ℕ). x ∷ unescape 0 (slice n e src)) c z;
+        forward = omega arith;
+        inside = omega arith;
+      }
+    where
+      some-left : (s : Bytes) → slice (i + 1) e src ≡ s → getD s 0 0 ≡ code "\n" → i + 1 < e
+      some-left [] x y = absurd (eqb-false 0 (code "\n") refl y)
+      some-left (b ∷ s) x y = omega (arith, length-slice (i + 1) e src k, ap length x)
+
+  meant-turned : getD src i 0 ≡ code "\r" → (getD (slice (i + 1) e src) 0 0 ≡ code "\n" → ⊥) → Meant src i e (record { byte = code "\n"; next = i + 1 })
+  meant-turned a b =
+      record {
+        means = rw (slice-first i e src h k) (unescape-turned (getD src i 0) (slice (i + 1) e src) a b);
+        forward = omega arith;
+        inside = omega arith;
+      }
+
+  meant-return : getD src i 0 ≡ code "\r" → Meant src i e (signReturn i (slice (i + 1) e src))
+  meant-return a =
+      by-test (eqb (getD (slice (i + 1) e src) 0 0) (code "\n")) (λ t. rw t (meant-joined a (eqb-true _ (code "\n") t))) (λ t. rw t (meant-turned a (eqb-false _ (code "\n") t)))
 
   meant-found : getD src i 0 ≡ code "&" → (o : Found) → entityAt (slice (i + 1) e src) ≡ o → foundLen o ≤ length (slice (i + 1) e src)
       → Meant src i e (signFound i (getD src i 0) o)
@@ -88,8 +132,11 @@ module _ (src : Bytes) (i e : ℕ) (h : i < e) (k : e ≤ length src) where
         inside = omega arith;
       }
 
-  pub sign-here : (getD src i 0 ≡ code "&" → ⊥) → signAt i (slice i e src) ≡ record { byte = getD src i 0; next = i + 1 }
-  sign-here n = rw (slice-first i e src h k) (sign-plain i (getD src i 0) (slice (i + 1) e src) n)
+  pub sign-here : (getD src i 0 ≡ code "&" → ⊥) → (getD src i 0 ≡ code "\r" → ⊥) → signAt i (slice i e src) ≡ record { byte = getD src i 0; next = i + 1 }
+  sign-here n m = rw (slice-first i e src h k) (sign-plain i (getD src i 0) (slice (i + 1) e src) n m)
+
+  pub sign-line : getD src i 0 ≡ code "\r" → signAt i (slice i e src) ≡ signReturn i (slice (i + 1) e src)
+  sign-line a = rw (slice-first i e src h k) (sign-return i (getD src i 0) (slice (i + 1) e src) a)
 
   pub sign-found : getD src i 0 ≡ code "&" → (o : Found) → entityAt (slice (i + 1) e src) ≡ o → signAt i (slice i e src) ≡ signFound i (getD src i 0) o
   sign-found a o x = rw (slice-first i e src h k) (sign-amp i (getD src i 0) (slice (i + 1) e src) a ∙ ap (signFound i (getD src i 0)) x)
@@ -106,7 +153,9 @@ module _ (src : Bytes) (i e : ℕ) (h : i < e) (k : e ≤ length src) where
       let a = eqb-true (getD src i 0) (code "&") t in
       let o = entityAt (slice (i + 1) e src) in
       rw (sign-found a o refl) (meant-found a o refl (entity-fits (slice (i + 1) e src))))
-      (λ t. let a = eqb-false (getD src i 0) (code "&") t in rw (sign-here a) (meant-plain a))
+      (λ t. by-test (eqb (getD src i 0) (code "\r"))
+      (λ u. let a = eqb-true (getD src i 0) (code "\r") u in rw (sign-line a) (meant-return a))
+      (λ u. let a = eqb-false (getD src i 0) (code "&") t in let b = eqb-false (getD src i 0) (code "\r") u in rw (sign-here a b) (meant-plain a b)))
 
 -- ---- what is written
 pub escape-plain : (b : ℕ) (s : Bytes) → (b ≡ code "&" → ⊥) → (b ≡ code "<" → ⊥) → (b ≡ code ">" → ⊥) → escape (b ∷ s) ≡ b ∷ escape s
@@ -138,9 +187,9 @@ marked-by true false g = refl
 marked-by false true g = refl
 marked-by false false g = refl
 
-pub marked-is : (b : ℕ) → isMarked b ≡ (among "<&" b || eqb b (code ">"))
+pub marked-is : (b : ℕ) → isMarked b ≡ (among "<&" b || eqb b (code ">") || eqb b (code "\r"))
 unfolding isMarked bytes any among
-marked-is b = marked-by (eqb b (code "<")) (eqb b (code "&")) (eqb b (code ">"))
+marked-is b = ap (λ (t : Bool). t || eqb b (code "\r")) (marked-by (eqb b (code "<")) (eqb b (code "&")) (eqb b (code ">")))
 
 pub record Plain (b : ℕ) : Type 0 where
   pub no-amp : b ≡ code "&" → ⊥
@@ -150,12 +199,17 @@ pub record Plain (b : ℕ) : Type 0 where
 pub not-marked : (b : ℕ) → isMarked b ≡ false → Plain b
 unfolding isMarked
 not-marked b e =
-    let l = or-left (eqb b (code "&") || eqb b (code "<")) (eqb b (code ">")) e in
+    let d = or-left (eqb b (code "&") || eqb b (code "<") || eqb b (code ">")) (eqb b (code "\r")) e in
+    let l = or-left (eqb b (code "&") || eqb b (code "<")) (eqb b (code ">")) d in
     record {
       no-amp = eqb-false b (code "&") (or-left (eqb b (code "&")) (eqb b (code "<")) l);
       no-lt = eqb-false b (code "<") (or-right (eqb b (code "&")) (eqb b (code "<")) l);
-      no-gt = eqb-false b (code ">") (or-right (eqb b (code "&") || eqb b (code "<")) (eqb b (code ">")) e);
+      no-gt = eqb-false b (code ">") (or-right (eqb b (code "&") || eqb b (code "<")) (eqb b (code ">")) d);
     }
+
+pub not-return : (b : ℕ) → isMarked b ≡ false → b ≡ code "\r" → ⊥
+unfolding isMarked
+not-return b e = eqb-false b (code "\r") (or-right (eqb b (code "&") || eqb b (code "<") || eqb b (code ">")) (eqb b (code "\r")) e)
 
 pub plain-on : (b : ℕ) (s : Bytes) → isMarked b ≡ false → plainLen (b ∷ s) ≡ suc (plainLen s)
 unfolding plainLen
@@ -176,7 +230,7 @@ unfolding plainLen unescape
 means-plain [] = refl
 means-plain (b ∷ s) =
     by-test (isMarked b) (λ e. rw (plain-off b s e) refl)
-    (λ e. rw (plain-on b s e) (unescape-plain b s (not-marked b e .no-amp) ∙ ap (λ (x : Bytes). b ∷ x) (means-plain s)))
+    (λ e. rw (plain-on b s e) (unescape-plain b s (not-marked b e .no-amp) (not-return b e) ∙ ap (λ (x : Bytes). b ∷ x) (means-plain s)))
 
 pub spelt-plain : (s : Bytes) → spelt s ≡ take (plainLen s) s ++ spelt (drop (plainLen s) s)
 unfolding plainLen unescape escape
@@ -185,7 +239,7 @@ spelt-plain (b ∷ s) =
     by-test (isMarked b) (λ e. rw (plain-off b s e) refl)
     (λ e. let p = not-marked b e in
     rw (plain-on b s e)
-    (ap escape (unescape-plain b s (p .no-amp)) ∙ escape-plain b (unescape 0 s) (p .no-amp) (p .no-lt) (p .no-gt) ∙ ap (λ (x : Bytes). b ∷ x) (spelt-plain s)))
+    (ap escape (unescape-plain b s (p .no-amp) (not-return b e)) ∙ escape-plain b (unescape 0 s) (p .no-amp) (p .no-lt) (p .no-gt) ∙ ap (λ (x : Bytes). b ∷ x) (spelt-plain s)))
 
 -- how far bytes are written as they stand, at a place of a text
 pub plain-over : (src : Bytes) (e : ℕ) → plainLen (slice e e src) ≡ 0

@@ -4,6 +4,7 @@ use Prim.Native.Char.{code}
 use mathlib.Core.Bool.{Bool, true, false, _||_}
 use mathlib.Core.List.{[], _∷_}
 use lib.Dec.{eqb}
+use lib.ListN.{getD}
 use Rattle.xml.specs.Bytes.{Bytes}
 use Rattle.xml.specs.Forest.{escape}
 use Rattle.xml.specs.Read.{entityAt, unescape}
@@ -15,9 +16,9 @@ use Rattle.xml.specs.declared.text.Sign.{Sign}
 abbrev pub spelt : Bytes → Bytes
 spelt raw = escape (unescape 0 raw)
 
--- a byte that begins an entity or is written as one; any other is written as it stands
+-- a byte that begins an entity or a line end, or is written as an entity; any other is written as it stands
 unfoldable pub isMarked : ℕ → Bool
-isMarked b = eqb b (code "&") || eqb b (code "<") || eqb b (code ">")
+isMarked b = eqb b (code "&") || eqb b (code "<") || eqb b (code ">") || eqb b (code "\r")
 
 -- how many bytes at the start are written as they stand
 unfoldable pub plainLen : Bytes → ℕ
@@ -29,7 +30,11 @@ abbrev pub signFound : ℕ → ℕ → Found → Sign
 signFound i b (Hit n c) = record { byte = c; next = i + 1 + n }
 signFound i b (Miss n) = record { byte = b; next = i + 1 }
 
+-- at the place i stands a CR, with s after it
+abbrev pub signReturn : ℕ → Bytes → Sign
+signReturn i s = record { byte = code "\n"; next = elim (eqb (getD s 0 0) (code "\n")) [ true ↦ i + 2 | false ↦ i + 1 ] }
+
 -- the run s stands at the place i
 unfoldable pub signAt : ℕ → Bytes → Sign
 signAt i [] = record { byte = 0; next = i }
-signAt i (b ∷ s) = elim (eqb b (code "&")) [ true ↦ signFound i b (entityAt s) | false ↦ record { byte = b; next = i + 1 } ]
+signAt i (b ∷ s) = elim (eqb b (code "&")) [ true ↦ signFound i b (entityAt s) | false ↦ elim (eqb b (code "\r")) [ true ↦ signReturn i s | false ↦ record { byte = b; next = i + 1 } ] ]

@@ -1,12 +1,12 @@
 -- What a text spells is tidy; contents one after another; and the written form of a tidy forest spells it.
 use Prim.Native.Nat.{ℕ, _+_, _<_}
 use Prim.Native.Char.{code}
-use mathlib.Core.Path.{_≡_, refl, sym}
-use mathlib.Core.Bool.{Bool, true, false}
+use mathlib.Core.Path.{_≡_, refl, sym, _∙_}
+use mathlib.Core.Bool.{Bool, true, false, not}
 use mathlib.Core.List.{[], _∷_, _++_, append-nil}
 use borrow.Author.Tests.{eqb-true, eqb-false}
 use lib.Dec.{eqb}
-use Rattle.xml.specs.Bytes.{Bytes, bytes, all, isEmpty, isLegal, bytes-compute}
+use Rattle.xml.specs.Bytes.{Bytes, bytes, all, isEmpty, isLegal, isMeant, bytes-compute}
 use Rattle.xml.specs.Forest.{Forest, end, elem, text, stamp, escape, write, Tidy, Root}
 use Rattle.xml.specs.Grammar.{Entity, lt, gt, amp, quot, apos, Characters, none, kept, entity, Content, nothing, run, element, lone, times, Spells}
 use Rattle.xml.specs.Read.{isEnd}
@@ -52,15 +52,21 @@ escaped b s = at (eqb b (code "&")) refl (eqb b (code "<")) refl (eqb b (code ">
     at false e false f true g = sign (eqb-true b (code ">") g) gt
     at false e false f false g = self (eqb-false b (code "&") e) (eqb-false b (code "<") f) (eqb-false b (code ">") g)
 
-escaped-characters : {b : ℕ} {s w : Bytes} (t : Bytes) → Escaped b s w → isLegal b ≡ true → Characters s t → Characters w (b ∷ t)
-escaped-characters t (sign h e) l c = rw h (entity e c)
-escaped-characters {b} t (self n m g) l c = kept (legal-character b m n l) c
+pub meant-legal : (b : ℕ) → isMeant b ≡ true → (isLegal b ≡ true) × (b ≡ code "\r" → ⊥)
+unfolding isMeant
+meant-legal b e =
+    let h = both-true (isLegal b) (not (eqb b (code "\r"))) e in
+    (h .0, λ x. clash (sym (h .1) ∙ rw x refl))
 
-escape-characters : (t : Bytes) → all isLegal t ≡ true → Characters (escape t) t
+escaped-characters : {b : ℕ} {s w : Bytes} (t : Bytes) → Escaped b s w → isMeant b ≡ true → Characters s t → Characters w (b ∷ t)
+escaped-characters t (sign h e) l c = rw h (entity e c)
+escaped-characters {b} t (self n m g) l c = let h = meant-legal b l in kept (legal-character b m n (h .0)) (h .1) c
+
+escape-characters : (t : Bytes) → all isMeant t ≡ true → Characters (escape t) t
 unfolding escape all
 escape-characters [] l = none
 escape-characters (b ∷ t) l =
-    let h = both-true (isLegal b) (all isLegal t) l in
+    let h = both-true (isMeant b) (all isMeant t) l in
     escaped-characters t (escaped b t) (h .0) (escape-characters t (h .1))
 
 escaped-clear : {b : ℕ} {s w : Bytes} (q : ℕ) → Escaped b s w → ((r : ℕ) → Clear r s) → Clear q w

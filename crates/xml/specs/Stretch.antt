@@ -1,22 +1,21 @@
 -- Stretches of a text in which a test answers the same at each byte, and how far runs of bytes go over them.
 use Prim.Native.Nat.{ℕ, zero, suc, _+_, _-_, _<_, _≤_}
-use Prim.Native.Char.{code}
 use native.Mathlib.Nat.{zero-add, add-zero}
 use native.Mathlib.Omega.{arith}
-use mathlib.Core.Path.{_≡_, refl, ap, ap₂, sym, _∙_}
-use mathlib.Core.Bool.{Bool, true, false, not, _&&_, _||_}
+use mathlib.Core.Path.{_≡_, ap, sym, _∙_}
+use mathlib.Core.Bool.{Bool, true, false, _||_}
 use borrow.Author.Tests.{ltb-true, ltb-false, lt-ltb, le-ltb}
-use lib.Dec.{eqb, ltb}
+use lib.Dec.{ltb}
 use lib.ListN.{length, drop, getD}
 use lib.Seq.{slice}
-use Rattle.xml.specs.Bytes.{Bytes, within, isTimes, bytes-compute}
+use Rattle.xml.specs.Bytes.{Bytes, isTimes}
 use Rattle.xml.specs.ByteTests.{isPlain, plain-next}
 use Rattle.xml.specs.Read.{timesLen, scan}
 use Rattle.xml.specs.ScanLaws.{timesLen-end, timesLen-stop, timesLen-more}
 use Rattle.xml.specs.Signs.{isMarked, plainLen}
 use Rattle.xml.specs.SignLaws.{plain-step}
 use Rattle.xml.specs.TextLaws.{scan-on}
-use Rattle.xml.specs.Truth.{bool-by, by-test, or-left, or-right, or-second}
+use Rattle.xml.specs.Truth.{bool-by, by-test, or-left, or-right}
 
 -- the test f answers t at each byte from i to e
 pub record Each (f : ℕ → Bool) (t : Bool) (src : Bytes) (i e : ℕ) : Type 0 where
@@ -76,36 +75,6 @@ plain-passed {src} {i} {e} {r} k p =
     omega (arith, p .forward, plain-each src e r (p .inside) k (r - i) i (omega (arith, p .forward)) (p .each))
 
 -- ---- plain bytes
--- a byte that is not one of 0x20 to 0x7E, or is `]`
-abbrev pub isFar : ℕ → Bool
-isFar b = not (within 0x20 0x7E b) || eqb b (code "]")
-
--- none of four bytes, by `marked` and `far`
-none-by : (l a k g : Bool) → (l || (a || (k || (g || false)))) ≡ (a || l || g || k)
-none-by true true k g = refl
-none-by true false k g = refl
-none-by false true k g = refl
-none-by false false true true = refl
-none-by false false true false = refl
-none-by false false false true = refl
-none-by false false false false = refl
-
-plain-by : (p l a k g : Bool) → (p && not (l || (a || (k || (g || false))))) ≡ not (a || l || g || (not p || k))
-plain-by true l a k g = ap not (none-by l a k g)
-plain-by false l a k g = sym (ap not (or-second (a || l || g) true refl))
-
-pub plain-is : (b : ℕ) → isPlain b ≡ (eqb b (code "\n") || not (isMarked b || isFar b))
-unfolding isPlain isMarked bytes-compute
-plain-is b =
-    ap (λ (t : Bool). eqb b (code "\n") || t)
-    (plain-by (within 0x20 0x7E b) (eqb b (code "<")) (eqb b (code "&")) (eqb b (code "]")) (eqb b (code ">")))
-
-far-plain : (b : ℕ) → isMarked b ≡ false → isFar b ≡ false → isPlain b ≡ true
-far-plain b m e = plain-is b ∙ ap₂ (λ (t u : Bool). eqb b (code "\n") || not (t || u)) m e ∙ or-second (eqb b (code "\n")) true refl
-
-pub each-plain : {src : Bytes} {i e : ℕ} → Each isMarked false src i e → Each isFar false src i e → Each isPlain true src i e
-each-plain {src} a b = record { at = λ j l h. far-plain (getD src j 0) (a .at j l h) (b .at j l h) }
-
 -- how many times `]` stand before the place e, where q stand before i and plain bytes between
 abbrev pub bracketsAfter : ℕ → ℕ → ℕ → ℕ
 bracketsAfter q i e = elim (ltb i e) [ true ↦ 0 | false ↦ q ]

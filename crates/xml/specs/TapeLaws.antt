@@ -104,13 +104,18 @@ pub length-unescape : (k : ℕ) (s : Bytes) → length (unescape k s) ≤ length
 unfolding unescape
 length-unescape k [] = omega arith
 length-unescape (suc k) (b ∷ s) = omega (arith, length-unescape k s)
-length-unescape zero (b ∷ s) = at (eqb b (code "&")) (entityAt s) (λ n. length-unescape n s)
+length-unescape zero (b ∷ s) = at (eqb b (code "&")) (eqb b (code "\r")) (eqb (getD s 0 0) (code "\n")) (entityAt s) (λ n. length-unescape n s)
   where
-    at : (t : Bool) (o : Found) → ((n : ℕ) → length (unescape n s) ≤ length s) →
-        length {A = ℕ} (elim t [ false ↦ b ∷ unescape 0 s | true ↦ elim o [ Hit n c ↦ c ∷ unescape n s | Miss n ↦ b ∷ unescape 0 s ] ]) ≤ suc (length s)
-    at false o f = omega (arith, f 0)
-    at true (Hit n c) f = omega (arith, f n)
-    at true (Miss n) f = omega (arith, f 0)
+    at : (t x y : Bool) (o : Found) → ((n : ℕ) → length (unescape n s) ≤ length s) →
+        length {A = ℕ} (elim t [
+          | false ↦ elim x [ false ↦ b ∷ unescape 0 s | true ↦ elim y [ true ↦ unescape 0 s | false ↦ code "\n" ∷ unescape 0 s ] ]
+          | true ↦ elim o [ Hit n c ↦ c ∷ unescape n s | Miss n ↦ b ∷ unescape 0 s ]
+        ]) ≤ suc (length s)
+    at false false y o f = omega (arith, f 0)
+    at false true true o f = omega (arith, f 0)
+    at false true false o f = omega (arith, f 0)
+    at true x y (Hit n c) f = omega (arith, f n)
+    at true x y (Miss n) f = omega (arith, f 0)
 
 module _ {src cells : List ℕ} where
   pub tape-le : {p q : ℕ} {f : Forest} → Tape src cells p q f → p ≤ q

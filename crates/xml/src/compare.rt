@@ -38,11 +38,11 @@ pub fn same_bytes(src1: &[u8], a1: usize, e1: usize, src2: &[u8], a2: usize, e2:
     true
 }
 
-// A byte of one text that is not the other's, or begins an entity; told without a branch.
+// A byte of one text that is not the other's, or begins an entity or a line end; told without a branch.
 fn is_unlike(x: u8, y: u8) -> bool
     ensures { λ r. ⌜ r ≡ isUnlike x y ⌝ }
 {
-    (x != y) | (x == b'&')
+    (x != y) | (x == b'&') | (x == b'\r')
 }
 
 // Whether one of sixteen bytes is unlike; without a branch, so that they are compared at once.
@@ -109,7 +109,7 @@ fn alike_len(src1: &[u8], i: usize, e1: usize, src2: &[u8], j: usize, e2: usize)
     n + alike_bytes(src1, i + n, src2, j + n, count - n)
 }
 
-// The runs src1[a1..e1] and src2[a2..e2] end in bytes that differ and end no entity, and so mean different things.
+// The runs src1[a1..e1] and src2[a2..e2] end in bytes that differ, end no entity and are no CR, and so mean different things.
 fn ends_differ(src1: &[u8], a1: usize, e1: usize, src2: &[u8], a2: usize, e2: usize) -> bool
     requires { ⌜ Parts (now src1) a1 e1 (now src2) a2 e2 ⌝ }
     ensures { λ r. ⌜ (r ≡ true → same (unescape 0 (slice a1 e1 (now (src1 .entry)))) (unescape 0 (slice a2 e2 (now (src2 .entry)))) ≡ false) ⌝ }
@@ -128,7 +128,13 @@ fn ends_differ(src1: &[u8], a1: usize, e1: usize, src2: &[u8], a2: usize, e2: us
     if b == b';' {
         return false;
     }
-    c != b';'
+    if b == b'\r' {
+        return false;
+    }
+    if c == b';' {
+        return false;
+    }
+    c != b'\r'
 }
 
 // The runs of text whose raw bytes are src1[a1..e1] and src2[a2..e2] mean the same: bytes that are alike are passed together.

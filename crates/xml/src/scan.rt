@@ -10,7 +10,7 @@ use crate::class::is_name_byte;
 use crate::class::is_name_start;
 use crate::class::is_printed;
 use crate::class::is_small;
-use crate::text::is_marked;
+use crate::class::is_white_byte;
 use crate::writer::least;
 ghost use mathlib.Core.Path.{_≡_};
 ghost use mathlib.Core.Bool.{true, false, not};
@@ -20,7 +20,7 @@ ghost use lib.Seq.{slice};
 ghost use Rattle.xml.specs.ByteTests.{isPlain};
 ghost use Rattle.xml.specs.Bytes.{isTimes};
 ghost use Rattle.xml.specs.Read.{common, nameRest, nameLen, timesLen, entityAt, textByte, scan as scanned};
-ghost use Rattle.xml.specs.Stretch.{Each, Passed, Times, isFar, bracketsAfter};
+ghost use Rattle.xml.specs.Stretch.{Each, Passed, Times, bracketsAfter};
 ghost use Rattle.xml.specs.Tokens.{beginsTimes, TimesRead, StartRead, EndRead, EndNamed};
 
 // The byte at a place; the end of the text counts as a byte 0.
@@ -176,14 +176,14 @@ pub fn entity_at(src: &[u8], at: usize) -> Found
     Found::Miss(larger(lt, larger(gt, larger(amp, larger(quot, larger(apos, 0))))))
 }
 
-// A byte that is not printed, or is `]`; told without a branch.
-fn is_far(b: u8) -> bool
-    ensures { λ r. ⌜ r ≡ isFar b ⌝ }
+// A byte that is not plain: `<`, `&`, `]`, `>`, or one that is neither white space nor printed; told without a branch.
+fn is_special(b: u8) -> bool
+    ensures { λ r. ⌜ r ≡ not (isPlain b) ⌝ }
 {
-    !is_printed(b) | (b == b']')
+    is_markup(b) | (b == b']') | (b == b'>') | !(is_white_byte(b) | is_printed(b))
 }
 
-// A byte after which a text goes on, whatever stands before it: a line feed, or 20 to 7E hexadecimal and none of `<`, `&`, `]`, `>`.
+// A byte after which a text goes on, whatever stands before it: white space, or 20 to 7E hexadecimal and none of `<`, `&`, `]`, `>`.
 // Digits are told first, then markup, which ends most runs.
 fn is_plain(b: u8) -> bool
     ensures { λ r. ⌜ r ≡ isPlain b ⌝ }
@@ -194,22 +194,19 @@ fn is_plain(b: u8) -> bool
     if is_markup(b) {
         return false;
     }
-    (b == b'\n') | !(is_marked(b) | is_far(b))
+    !is_special(b)
 }
 
-// Whether one of `count` bytes is marked or far; without a branch, so that they are compared at once.
+// Whether one of `count` bytes is not plain; without a branch, so that they are compared at once.
 fn has_other(src: &[u8], at: usize, count: usize) -> bool
     requires { ⌜ at + count ≤ length (now src) ⌝ }
     ensures { λ r. ⌜ (r ≡ false → Each isPlain true (now (src .entry)) at (at + count)) ⌝ }
 {
     let mut hit = false;
-    let mut far = false;
     for i in 0..count {
-        let b = src[at + i];
-        hit = hit | is_marked(b);
-        far = far | is_far(b);
+        hit = hit | is_special(src[at + i]);
     }
-    hit | far
+    hit
 }
 
 // A place up to which the text has plain bytes alone, from a place on: blocks of sixteen.

@@ -1,4 +1,4 @@
-// Whether a text is spelled as it is written: no white space around the root, no `<a/>`, no bare `>` in text, no `&quot;` or `&apos;`.
+// Whether a text is spelled as it is written: no white space around the root, no `<a/>`, no bare `>` in text, no `&quot;` or `&apos;`, no CR.
 // Counts tell it, and a count has no branches: the compiler makes vector instructions of a block's loop.
 use crate::class::is_white_byte;
 use crate::scan::byte_at;
@@ -64,14 +64,14 @@ fn count_of(src: &[u8], b: u8) -> usize
     n + count_rest(src, b, i)
 }
 
-// `&` with `q` or `ap` after it: `&quot;` or `&apos;`, which are never written.
+// What is never written: `&` with `q` or `ap` after it, which is `&quot;` or `&apos;`, and CR.
 fn is_other(a: u8, b: u8, c: u8) -> bool
     ensures { λ r. ⌜ r ≡ isOther a b c ⌝ }
 {
-    (a == b'&') & ((b == b'q') | ((b == b'a') & (c == b'p')))
+    ((a == b'&') & ((b == b'q') | ((b == b'a') & (c == b'p')))) | (a == b'\r')
 }
 
-// Whether one of the 64 bytes from a place on is such a `&`.
+// Whether one of the 64 bytes from a place on is such a one.
 fn has_other_block(src: &[u8], at: usize) -> bool
     requires { ⌜ at + 66 ≤ length (now src) ⌝ }
     ensures { λ r. ⌜ others (drop at (now (src .entry))) ≡ (r || others (drop (at + 64) (now (src .entry)))) ⌝ }
@@ -83,7 +83,7 @@ fn has_other_block(src: &[u8], at: usize) -> bool
     odd
 }
 
-// Whether one of the bytes from a place on is such a `&`.
+// Whether one of the bytes from a place on is such a one.
 fn has_other_rest(src: &[u8], at: usize) -> bool
     requires { ⌜ length (now src) ≤ 32768 ⌝ }
     ensures { λ r. ⌜ r ≡ others (drop at (now (src .entry))) ⌝ }
@@ -98,7 +98,7 @@ fn has_other_rest(src: &[u8], at: usize) -> bool
     false
 }
 
-// Whether a byte of the text is such a `&`.
+// Whether a byte of the text is such a one.
 fn has_other(src: &[u8]) -> bool
     requires { ⌜ length (now src) ≤ 32768 ⌝ }
     ensures { λ r. ⌜ r ≡ others (now (src .entry)) ⌝ }

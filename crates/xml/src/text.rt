@@ -1,13 +1,14 @@
 // Runs of text, from their raw bytes: what is meant at a place, and how far the bytes are written as they stand.
 use crate::Found;
 use crate::class::is_markup;
+use crate::scan::byte_at;
 use crate::scan::entity_at;
 ghost use mathlib.Core.Path.{_≡_};
 ghost use mathlib.Core.Bool.{false};
 ghost use Prim.Native.Nat.{_+_, _<_, _≤_};
 ghost use lib.ListN.{length};
 ghost use lib.Seq.{slice};
-ghost use Rattle.xml.specs.Signs.{isMarked, plainLen, signAt};
+ghost use Rattle.xml.specs.Signs.{isMarked, plainLen, signReturn, signAt};
 ghost use Rattle.xml.specs.Stretch.{Each, Passed};
 
 // The byte that is meant at a place of a run, and the place after what stands for it.
@@ -16,12 +17,33 @@ pub struct Sign {
     pub next: usize,
 }
 
+// What the CR src[i] of a run that ends at e means: LF, by itself or with the LF after it.
+fn line_end(src: &[u8], i: usize, e: usize) -> Sign
+    requires { ⌜ (i < e) × (e ≤ length (now src)) ⌝ }
+    ensures { λ r. ⌜ r ≡ signReturn i (slice (i + 1) e (now (src .entry))) ⌝ }
+{
+    let b = byte_at(&src[..e], i + 1);
+    if b != b'\n' {
+        return Sign {
+            byte: b'\n',
+            next: i + 1,
+        };
+    }
+    Sign {
+        byte: b,
+        next: i + 2,
+    }
+}
+
 // What the run src[i..e] means first.
 pub fn sign_at(src: &[u8], i: usize, e: usize) -> Sign
     requires { ⌜ (i < e) × (e ≤ length (now src)) ⌝ }
     ensures { λ r. ⌜ r ≡ signAt i (slice i e (now (src .entry))) ⌝ }
 {
     let b = src[i];
+    if b == b'\r' {
+        return line_end(src, i, e);
+    }
     if b != b'&' {
         return Sign {
             byte: b,
@@ -40,11 +62,11 @@ pub fn sign_at(src: &[u8], i: usize, e: usize) -> Sign
     }
 }
 
-// A byte that begins an entity or is written as one; told without a branch.
-pub(crate) fn is_marked(b: u8) -> bool
+// A byte that begins an entity or a line end, or is written as an entity; told without a branch.
+fn is_marked(b: u8) -> bool
     ensures { λ r. ⌜ r ≡ isMarked b ⌝ }
 {
-    is_markup(b) | (b == b'>')
+    is_markup(b) | (b == b'>') | (b == b'\r')
 }
 
 // Whether one of sixteen bytes is marked; without a branch, so that they are compared at once.

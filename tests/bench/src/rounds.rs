@@ -6,6 +6,7 @@ use crate::workloads::{self, Workload};
 use compare::archives;
 use compare::comparison::Comparison;
 use compare::marks::{self, UNUSED};
+use compare::notes;
 use compare::random::Random;
 use compare::station::Call;
 use reference::archive::archive;
@@ -21,15 +22,21 @@ pub fn damaged_workload(c: &mut Comparison, seed: u64, number: u64) {
     c.place = format!("seed {seed}, workload {number}");
     let r = &mut random(seed, number);
     let versions = if r.below(400) == 0 { 999 } else { r.choose(&[2, 5, 9, 12, 20]) };
-    let workload = match r.below(5) {
+    let workload = match r.below(6) {
         0 => workloads::typical(versions.min(50)),
         1 | 2 => workloads::counter(versions),
         3 => workloads::gaps(versions),
+        4 => workloads::notes(versions.min(12)),
         _ => workloads::lamps(versions),
     };
     for call in workload.calls() {
         c.ask(r, &workload.keys, call);
     }
+    // The same version with other line ends.
+    let version = &notes::other_ends(r, &workload.version);
+    c.ask(r, &workload.keys, Call::Found { version });
+    c.ask(r, &workload.keys, Call::Add { archive: &workload.before, version });
+    c.ask(r, &workload.keys, Call::Add { archive: &workload.archive, version });
     let count = if versions == 999 { 2 } else { 8 };
     for _ in 0..count {
         let archive = if r.chance(30) { one_content_twice(r, &workload) } else { archives::damaged(r, &workload.archive, workload.n) };

@@ -70,7 +70,7 @@ impl Workload {
 }
 
 pub fn all() -> Vec<Workload> {
-    vec![record(), typical(50), full(), counter(999), gaps(999), lamps(999), deep()]
+    vec![record(), typical(50), full(), counter(999), gaps(999), lamps(999), deep(), notes(12)]
 }
 
 /// An archive as it grows.
@@ -258,6 +258,18 @@ pub fn lamps(versions: usize) -> Workload {
         archive.add(&format!("<station>{lamps}</station>"));
     }
     archive.done("lamps", "/station/lamp[pos=\"77\"]")
+}
+
+/// Ten notes of twelve lines that end in CR LF, as the new tablets save them; in each version one of them is another.
+pub fn notes(versions: usize) -> Workload {
+    let mut archive = Growing::new("(/, (station, {}))\n(/station, (note, {day}))\n(/station/note, (text, {}))\n");
+    for number in 1..=versions {
+        let saved = |day: usize| (number + 9 - day) / 10;
+        let line = |day: usize, line: usize| format!("{line:02}00 light burning, wind south-west {}, sea moderate\r\n", 3 + (saved(day) + line) % 5);
+        let note = |day: usize| format!("  <note><day>{day}</day><text>{}</text></note>\r\n", (1..=12).map(|hour| line(day, hour)).collect::<String>());
+        archive.add(&format!("<station>\r\n{}</station>\r\n", (0..10).map(note).collect::<String>()));
+    }
+    archive.done("notes", "/station/note[day=\"7\"]/text")
 }
 
 /// Eight levels of key paths, the last with two siblings, and sixteen of elements, each level in a

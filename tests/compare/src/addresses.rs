@@ -65,7 +65,7 @@ pub fn damaged(r: &mut Random, keys: &Keys, address: &[u8]) -> Vec<u8> {
     let text = String::from_utf8_lossy(address).into_owned();
     let long = format!("=\"{}\"", "v".repeat(33));
     let replaced = |from: &str, to: &str| text.replacen(from, to, 1);
-    let damaged = match r.below(22) {
+    let damaged = match r.below(23) {
         0 => replaced(" and ", " or "),
         1 => replaced(" and ", "  and "),
         2 => replaced(" and ", "]["),
@@ -107,6 +107,7 @@ pub fn damaged(r: &mut Random, keys: &Keys, address: &[u8]) -> Vec<u8> {
             None => String::new(),
         },
         17 => text.repeat(2),
+        19 => text + r.choose(&["\r", "\r\n", "\n"]),
         18 if r.chance(40) => {
             let mut address = address.to_vec();
             address.resize(2_559 + r.below(4), b'/');

@@ -107,10 +107,10 @@ const SETS: [&str; 22] = [
     "", "0", "1", "2", "1-2", "1,2", "1-1", "2-1", "01", "1-02", "1,", ",1", "1,1", "1 ", "1--2", "1-2-3", "1-1000", "1000", "4294967297", "1-18446744073709551617", "3,1", "1-2,2-3",
 ];
 
-const TEXTS: [&str; 14] = ["", "1", "2", "10", "x", " ", "&gt;", ">", "&quot;", "\"", "]]&gt;", "]]>", "&amp;lt;", "a b"];
+const TEXTS: [&str; 18] = ["", "1", "2", "10", "x", " ", "&gt;", ">", "&quot;", "\"", "]]&gt;", "]]>", "&amp;lt;", "a b", "a\nb", "\n", "a\rb", "a\r\nb"];
 
-const SNIPPETS: [&str; 22] = [
-    "<T t=\"1\">", "</T>", "<T t=\"2\"></T>", "<T>", "<T/>", "<T t='1'>", "<T  t=\"1\">", "<T t=\"1\" >", "<T t=\"1\"/>", " ", "\n", "<a></a>", "<a/>", "x", ">", "&", "&lt;", "</", "<", "]]>", "<!---->", "\0",
+const SNIPPETS: [&str; 24] = [
+    "<T t=\"1\">", "</T>", "<T t=\"2\"></T>", "<T>", "<T/>", "<T t='1'>", "<T  t=\"1\">", "<T t=\"1\" >", "<T t=\"1\"/>", " ", "\n", "\r", "\r\n", "<a></a>", "<a/>", "x", ">", "&", "&lt;", "</", "<", "]]>", "<!---->", "\0",
 ];
 
 /// An archive near a legal one of n versions. Some are legal still.
@@ -118,6 +118,9 @@ pub fn damaged(r: &mut Random, archive: &[u8], n: usize) -> Vec<u8> {
     let snippets = SNIPPETS.map(str::as_bytes);
     if r.chance(12) {
         return damage_bytes(r, archive, &snippets);
+    }
+    if r.chance(10) {
+        return with_cr(r, archive);
     }
     let mut top = part(Kind::Element(vec![]), read(&mut &archive[..]));
     for _ in 0..r.choose(&[1, 1, 1, 1, 2, 3]) {
@@ -127,11 +130,38 @@ pub fn damaged(r: &mut Random, archive: &[u8], n: usize) -> Vec<u8> {
     write(&top.parts, &mut out);
     match r.below(200) {
         0 | 1 => out.resize(out.len().max(32_768 + r.below(3)), r.choose(b" x\n")),
-        2 | 3 => out.push(r.choose(b" \nx\0<")),
-        4 => out.insert(0, r.choose(b" \nx\0<")),
+        2 | 3 => out.push(r.choose(b" \n\rx\0<")),
+        4 => out.insert(0, r.choose(b" \n\rx\0<")),
         _ => (),
     }
     out
+}
+
+/// The places of a text for which a byte, and the one after it, are such.
+fn places_of(text: &[u8], fits: &dyn Fn(u8, u8) -> bool) -> Vec<usize> {
+    (0..text.len()).filter(|&at| fits(text[at], text.get(at + 1).copied().unwrap_or(0))).collect()
+}
+
+/// An archive holding CR (Q-4): in place of one LF or of all, or before them; before or after any byte, beside a tag, in a
+/// tag or a timestamp, or around the outermost `T`.
+fn with_cr(r: &mut Random, archive: &[u8]) -> Vec<u8> {
+    let end: &[u8] = r.choose(&[&b"\r"[..], b"\r", b"\r\n", b"\r\n", b"\n\r"]);
+    let line_ends = places_of(archive, &|byte, _| byte == b'\n');
+    let kind = r.below(10);
+    if kind < 5 && !line_ends.is_empty() {
+        let one = r.choose(&line_ends);
+        let with = |at: usize| if kind == 4 || at == one { end } else { &archive[at..=at] };
+        return (0..archive.len()).flat_map(|at| if archive[at] == b'\n' { with(at) } else { &archive[at..=at] }).copied().collect();
+    }
+    let places = match kind {
+        5 => places_of(archive, &|byte, next| byte == b'>' || next == b'<'),
+        6 => places_of(archive, &|byte, _| byte == b'<' || byte == b'/'),
+        7 => places_of(archive, &|byte, next| byte.is_ascii_digit() || next == b'"' || byte == b'"'),
+        8 => vec![0, archive.len() - 1],
+        _ => (0..archive.len()).collect(),
+    };
+    let at = r.choose(&places) + usize::from(kind < 8 || r.chance(50));
+    [&archive[..at], end, &archive[at..]].concat()
 }
 
 fn some(r: &mut Random, top: &Part, fits: &dyn Fn(&Part) -> bool) -> Option<Place> {

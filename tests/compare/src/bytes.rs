@@ -14,7 +14,7 @@ use reference::shelf::Shelf;
 use reference::timestamp::{longest, text};
 
 /// A run of text of 70 bytes.
-const RUN: &str = "Fl 5s white; lamp 2 of 4 was lit at dusk, the lens is clean (see log).";
+pub(crate) const RUN: &str = "Fl 5s white; lamp 2 of 4 was lit at dusk, the lens is clean (see log).";
 /// A name of 32 bytes, which is a key value too. It has no `a`, `z`, `A`, `Z`, `0` or `9`, as the other
 /// names here have none, so that a wrong range shows by the byte that is put in.
 const LONG: &str = "bcdefghijklmnopqrstuvwxybcdefghi";

@@ -2,7 +2,8 @@
 //! an output, length or number that is not as promised, and those of marks, of vacant versions and of
 //! the longest history (document 02, Q-2, Q-6 and Q-14). Those of byte classes by formula, each
 //! range of a class one byte too wide or too narrow at each of its ends, are found by the sweep of
-//! that byte alone (`bytes`), at each kind of place where the class decides.
+//! that byte alone (`bytes`), at each kind of place where the class decides. Those of line ends
+//! are in `line_end_faults`.
 
 use crate::bytes::{self, Places};
 use crate::comparison::Comparison;

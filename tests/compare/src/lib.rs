@@ -9,8 +9,12 @@ pub mod comparison;
 mod faults;
 pub mod keylists;
 pub mod limits;
+#[cfg(test)]
+mod line_end_faults;
+pub mod line_ends;
 pub mod lists;
 pub mod marks;
+pub mod notes;
 pub mod random;
 pub mod station;
 pub mod versions;

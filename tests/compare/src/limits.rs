@@ -2,6 +2,7 @@
 
 use crate::bytes;
 use crate::comparison::Comparison;
+use crate::line_ends;
 use crate::marks::{name_of, table, UNUSED};
 use crate::station::Call;
 use reference::marks::{Mark, ENTRY_BYTES, NAME_BYTES, TABLE_BYTES};
@@ -26,9 +27,10 @@ pub fn run(c: &mut Comparison) {
     tables(c);
     vacancies(c);
     longest_histories(c);
+    line_ends::run(c);
 }
 
-fn f(content: &str) -> String {
+pub(crate) fn f(content: &str) -> String {
     format!("<s><f>{content}</f></s>")
 }
 
@@ -41,7 +43,7 @@ fn add(c: &mut Comparison, keys: &str, archive: &[u8], version: &str) -> Vec<u8>
 }
 
 /// Each reading call on an archive, with numbers in and out of 1 to n.
-fn read_all(c: &mut Comparison, keys: &str, archive: &[u8], numbers: &[usize], addresses: &[&str]) {
+pub(crate) fn read_all(c: &mut Comparison, keys: &str, archive: &[u8], numbers: &[usize], addresses: &[&str]) {
     for &i in numbers {
         c.ask_each_output(keys.as_bytes(), Call::Retrieve { archive, i });
         c.ask_each_output(keys.as_bytes(), Call::Back { archive, table: &UNUSED, i });
@@ -280,7 +282,7 @@ fn up_to_1000(c: &mut Comparison, version: &dyn Fn(usize) -> String) {
     }
 }
 
-fn shelf_of(versions: &[String]) -> Vec<u8> {
+pub(crate) fn shelf_of(versions: &[String]) -> Vec<u8> {
     let mut shelf = Shelf::found(KEYS.as_bytes(), versions[0].as_bytes()).expect("a legal version");
     versions[1..].iter().for_each(|version| shelf.add(version.as_bytes()).expect("a legal version"));
     shelf.archive()
@@ -426,7 +428,7 @@ fn some_marks(count: usize, n: usize) -> Vec<Mark> {
 }
 
 /// Each call over a table, with a number or a name.
-fn mark_all(c: &mut Comparison, archive: &[u8], table: &[u8], names: &[&[u8]], numbers: &[usize]) {
+pub(crate) fn mark_all(c: &mut Comparison, archive: &[u8], table: &[u8], names: &[&[u8]], numbers: &[usize]) {
     for &name in names {
         c.ask_each_output(KEYS.as_bytes(), Call::FindMark { archive, table, name });
         c.ask_each_output(KEYS.as_bytes(), Call::BackToMark { archive, table, name });

@@ -5,6 +5,7 @@ use crate::archives;
 use crate::comparison::Comparison;
 use crate::keylists::{self, Keys, Line};
 use crate::marks;
+use crate::notes;
 use crate::random::Random;
 use crate::station::{Call, Expected};
 use crate::versions::{self, Tree};
@@ -51,8 +52,8 @@ pub fn round(c: &mut Comparison, r: &mut Random) {
     }
 }
 
-/// A list of calls: the founding, adds, of vacant versions too, marks set, steps back by number and by
-/// name, refused ones between them, then retrievals and histories. After each call that was not refused, result and
+/// A list of calls: the founding, adds, of vacant versions and of notes saved on several tablets too, marks set, steps
+/// back by number and by name, refused ones between them, then retrievals and histories. After each call that was not refused, result and
 /// table are measured against the shelf.
 fn list(c: &mut Comparison, r: &mut Random, keys: &Keys, model: Tree) -> Option<Standing> {
     let text = if r.chance(15) { versions::vacant(r) } else { versions::spelled(r, keys, &model) };
@@ -65,7 +66,7 @@ fn list(c: &mut Comparison, r: &mut Random, keys: &Keys, model: Tree) -> Option<
     c.shelf_gives(&keys.text, call, &founded.bytes, &shelf.archive());
     let mut standing = Standing { archive: founded.bytes, table: shelf.table(), shelf, trees: vec![model] };
     for _ in 0..r.choose(&[0, 2, 4, 8, 12, 16]) {
-        match r.below(32) {
+        match r.below(35) {
             0..=12 => {
                 let earlier = r.pick(&standing.trees).clone();
                 let latest = standing.trees.last().unwrap();
@@ -95,6 +96,7 @@ fn list(c: &mut Comparison, r: &mut Random, keys: &Keys, model: Tree) -> Option<
             20 | 21 => back_to_mark(c, r, keys, &mut standing),
             22 | 23 => (0..r.choose(&[1, 1, 2, 3])).for_each(|_| strike_off(c, r, keys, &mut standing)),
             24 if r.chance(10) => (0..33).for_each(|_| set_mark(c, r, keys, &mut standing)),
+            25..=27 => save_on_tablets(c, r, keys, &mut standing),
             _ => set_mark(c, r, keys, &mut standing),
         }
     }
@@ -128,6 +130,23 @@ fn add(c: &mut Comparison, r: &mut Random, keys: &Keys, standing: &mut Standing,
         standing.trees.push(tree);
     }
     added.number
+}
+
+/// Adds a version with notes, and the same text with other line ends, which is the same version; then one that
+/// differs in a byte of a note as well as in its line ends; sometimes the first again.
+fn save_on_tablets(c: &mut Comparison, r: &mut Random, keys: &Keys, standing: &mut Standing) {
+    let Some(tree) = versions::with_notes(r, keys, standing.trees.last().unwrap()) else { return };
+    let text = versions::spelled(r, keys, &tree);
+    let again = notes::other_ends(r, &text);
+    add(c, r, keys, standing, text.clone(), tree.clone());
+    add(c, r, keys, standing, again, tree.clone());
+    let changed = versions::note_changed(r, &tree);
+    let other = versions::spelled(r, keys, &changed);
+    add(c, r, keys, standing, other, changed);
+    if r.chance(50) {
+        let again = notes::other_ends(r, &text);
+        add(c, r, keys, standing, again, tree);
+    }
 }
 
 /// Adds a vacant version.
@@ -312,7 +331,8 @@ fn heavy(c: &mut Comparison, r: &mut Random) {
             versions::fill_nodes(r, &keys, &mut tree, wanted, &name)
         } else {
             let wanted = r.choose(&[4_000, 9_000, 16_000, 16_384, 16_385]);
-            versions::fill_length(r, &keys, &mut tree, wanted, b'a' + number)
+            let byte = if r.chance(25) { b'\n' } else { b'a' + number };
+            versions::fill_length(r, &keys, &mut tree, wanted, byte)
         };
         if !filled {
             continue;

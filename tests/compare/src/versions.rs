@@ -1,12 +1,13 @@
 //! Random versions for a key list: legal ones, spelled in many ways, and near-legal ones.
 
 use crate::keylists::{Keys, NAMES};
+use crate::notes::{self, Ends};
 use crate::random::{damage_bytes, Random};
 
 #[derive(Clone)]
 pub enum Item {
     Element(Tree),
-    /// What is meant; it can be spelled with entities.
+    /// What is meant; it can be spelled with entities, and its line ends, which are LF, with CR.
     Text(Vec<u8>),
     /// Spelled as it is.
     Raw(Vec<u8>),
@@ -23,8 +24,8 @@ pub struct Tree {
 /// Values that are prefixes of each other and order otherwise as numbers.
 pub const VALUES: [&str; 14] = ["1", "2", "10", "1.", "1-", "9", "a", "A", "_", "-", ".", "01", "T", "value-of_exactly.32.bytes_XXYZ"];
 
-const TEXTS: [&str; 22] = [
-    "1", "2", "40", "90", "x y", " ", "\t\r\n ", "a<b", "&", ">", "\"'", "]]", "]]>", "]>", "]", "&amp;", "\r", "~!@#$%^*()", " padded ", "1-3,5", "t=\"1\"", "&lt;",
+const TEXTS: [&str; 25] = [
+    "1", "2", "40", "90", "x y", " ", "\t\n ", "a<b", "&", ">", "\"'", "]]", "]]>", "]>", "]", "&amp;", "\n", "~!@#$%^*()", " padded ", "1-3,5", "t=\"1\"", "&lt;", "a\nb", "\n\n", "]]\n>\n",
 ];
 
 pub fn legal(r: &mut Random, keys: &Keys) -> Tree {
@@ -70,7 +71,7 @@ fn value(r: &mut Random) -> &'static str {
 
 /// Content of a frontier, or beneath one: no two runs side by side.
 fn content(r: &mut Random, depth: usize) -> Vec<Item> {
-    let text = |r: &mut Random| Item::Text(r.pick(&TEXTS).as_bytes().to_vec());
+    let text = |r: &mut Random| Item::Text(if r.chance(15) { notes::note(r) } else { r.pick(&TEXTS).as_bytes().to_vec() });
     match r.below(10) {
         0 | 1 => vec![],
         2..=6 => vec![text(r)],
@@ -187,23 +188,75 @@ pub fn varied(r: &mut Random, keys: &Keys, tree: &Tree) -> Tree {
     tree
 }
 
-/// A spelling of a version: sibling order, white space, entities and empty tags by chance.
+/// A version like this one, with notes in one of its frontiers, and in elements beneath it, up to eight deep; none
+/// if it has no frontier for them.
+pub fn with_notes(r: &mut Random, keys: &Keys, tree: &Tree) -> Option<Tree> {
+    let mut tree = tree.clone();
+    let frontier = some(r, &mut tree, &|tree| is_plain_frontier(keys, tree))?;
+    let mut items = vec![Item::Text(notes::note(r))];
+    for _ in 0..r.choose(&[0, 0, 1, 1, 2, 5, 8]) {
+        let name = free_name(r);
+        items = vec![Item::Text(notes::note(r)), leaf(&name, items)];
+        if r.chance(50) {
+            items.push(Item::Text(notes::note(r)));
+        }
+        if r.chance(30) {
+            items.remove(0);
+        }
+    }
+    frontier.items = items;
+    Some(tree)
+}
+
+/// A version like this one, but for a byte of one of its notes.
+pub fn note_changed(r: &mut Random, tree: &Tree) -> Tree {
+    let mut tree = tree.clone();
+    let is_note = |item: &Item| matches!(item, Item::Text(text) if text.contains(&b'\n'));
+    if let Some(holder) = some(r, &mut tree, &|tree| tree.items.iter().any(is_note)) {
+        let note = holder.items.iter_mut().find(|item| is_note(item));
+        if let Some(Item::Text(note)) = note {
+            *note = notes::changed(r, note);
+        }
+    }
+    tree
+}
+
+/// How a version is spelled: with white space where it is dropped, or without, and how its lines end.
+#[derive(Clone, Copy)]
+struct Spelling {
+    spaced: bool,
+    ends: Ends,
+}
+
+/// A spelling of a version: sibling order, white space, line ends, entities and empty tags by chance.
 pub fn spelled(r: &mut Random, keys: &Keys, tree: &Tree) -> Vec<u8> {
     let mut text = vec![];
-    let spaced = r.chance(50);
-    white_space(r, spaced, &mut text);
-    spell(r, keys, tree, spaced, &mut text);
-    white_space(r, spaced, &mut text);
+    let spelling = Spelling { spaced: r.chance(50), ends: notes::any_ends(r) };
+    white_space(r, spelling, &mut text);
+    spell(r, keys, tree, spelling, &mut text);
+    white_space(r, spelling, &mut text);
     text
 }
 
-fn white_space(r: &mut Random, spaced: bool, text: &mut Vec<u8>) {
-    if spaced && r.chance(50) {
-        text.extend_from_slice(r.choose(&[&b" "[..], b"\n", b"\t", b"\r\n", b"\n  ", b" \t\r\n"]));
+/// Sometimes white space, and now and then a long run of it.
+fn white_space(r: &mut Random, Spelling { spaced, ends }: Spelling, text: &mut Vec<u8>) {
+    if !spaced || r.chance(50) {
+        return;
+    }
+    let count = if r.chance(3) { r.below(80) } else { 1 };
+    for _ in 0..count {
+        match r.below(6) {
+            0 | 1 => notes::spell_end(r, ends, text),
+            2 => {
+                notes::spell_end(r, ends, text);
+                text.extend_from_slice(b"  ");
+            }
+            _ => text.extend_from_slice(r.choose(&[&b" "[..], b"\t", b"\r\n", b" \t\r\n", b"\r", b"\n\r", b"\r\r\n"])),
+        }
     }
 }
 
-fn spell(r: &mut Random, keys: &Keys, tree: &Tree, spaced: bool, text: &mut Vec<u8>) {
+fn spell(r: &mut Random, keys: &Keys, tree: &Tree, spelling: Spelling, text: &mut Vec<u8>) {
     let name = tree.name.as_bytes();
     let above = is_above(keys, tree);
     let mut inside = vec![];
@@ -213,16 +266,16 @@ fn spell(r: &mut Random, keys: &Keys, tree: &Tree, spaced: bool, text: &mut Vec<
     }
     for item in order {
         if above {
-            white_space(r, spaced, &mut inside);
+            white_space(r, spelling, &mut inside);
         }
         match item {
-            Item::Element(child) => spell(r, keys, child, spaced, &mut inside),
-            Item::Text(bytes) => spell_text(r, bytes, &mut inside),
+            Item::Element(child) => spell(r, keys, child, spelling, &mut inside),
+            Item::Text(bytes) => spell_text(r, bytes, spelling.ends, &mut inside),
             Item::Raw(bytes) => inside.extend_from_slice(bytes),
         }
     }
     if above {
-        white_space(r, spaced, &mut inside);
+        white_space(r, spelling, &mut inside);
     }
     if inside.is_empty() && r.chance(50) {
         text.extend_from_slice(&[b"<", name, b"/>"].concat());
@@ -231,8 +284,12 @@ fn spell(r: &mut Random, keys: &Keys, tree: &Tree, spaced: bool, text: &mut Vec<
     }
 }
 
-fn spell_text(r: &mut Random, bytes: &[u8], text: &mut Vec<u8>) {
+fn spell_text(r: &mut Random, bytes: &[u8], ends: Ends, text: &mut Vec<u8>) {
     for &byte in bytes {
+        if byte == b'\n' {
+            notes::spell_end(r, ends, text);
+            continue;
+        }
         let entity: &[u8] = match byte {
             b'<' => b"&lt;",
             b'&' => b"&amp;",
@@ -290,7 +347,12 @@ pub fn fill_length(r: &mut Random, keys: &Keys, tree: &mut Tree, wanted: usize, 
         return false;
     }
     let more = wanted - have;
-    let text = if byte == b'>' { [b"x".repeat(more % 4), b">".repeat(more / 4)].concat() } else { [byte].repeat(more) };
+    let text = match byte {
+        b'>' => [b"x".repeat(more % 4), b">".repeat(more / 4)].concat(),
+        // Lines of five bytes written: with CR LF the text that is lent is shorter still than its written form.
+        b'\n' => [b"x".repeat(more % 5), b">\n".repeat(more / 5)].concat(),
+        _ => [byte].repeat(more),
+    };
     frontier.items.push(leaf("z", vec![Item::Text(text)]));
     true
 }
@@ -311,9 +373,10 @@ pub fn nest(r: &mut Random, keys: &Keys, tree: &mut Tree, wanted: usize, name: &
     true
 }
 
-const SNIPPETS: [&str; 34] = [
+const SNIPPETS: [&str; 49] = [
     "<!-- c -->", "<?p?>", "<![CDATA[x]]>", "]]>", "]]&gt;", "&#65;", "&#x41;", "&nbsp;", "&lt", "&;", "&", "<", ">", "</", "/>", "<a b=\"c\"/>", "<a >", "</a >", "< a/>", "<a/ >", "<>", "</>",
     "<T t=\"1\">", "<T>", "</T>", "<T/>", "<a/>", "<a></a>", "x", " ", "&amp;", "<name_of_thirty_three_bytes_xxxxxxx/>", "<xml/>", "<a:b/>",
+    "\r", "\r\n", "\n\r", "\r\r\n", "\r&lt;", "&lt;\r\n", "]]\r>", "]]\r\n>", "\r]]>", "<a\r/>", "</a\r>", "&lt\r;", "&#13;", "&#xD;", "\r<a>\r\n</a>\r",
 ];
 
 /// A vacant version: empty, or white space alone, now and then as long as a version may be.
@@ -459,12 +522,12 @@ fn damage_tree(r: &mut Random, keys: &Keys, tree: &mut Tree) {
             fill_nodes(r, keys, tree, wanted, name);
         }
         19 if r.chance(50) => {
-            let (wanted, byte) = (r.choose(&[16_383, 16_384, 16_384, 16_385, 16_385, 17_000]), r.choose(b">>>x"));
+            let (wanted, byte) = (r.choose(&[16_383, 16_384, 16_384, 16_385, 16_385, 17_000]), r.choose(b">>\n\nx"));
             fill_length(r, keys, tree, wanted, byte);
         }
         // White space or text as a run of its own, in any element.
         20 => {
-            let run = r.choose(&[" ", "\n", "x", "]]>", "\t \t"]);
+            let run = r.choose(&[" ", "\n", "x", "]]>", "\t \t", "\n\n"]);
             let element = some(r, tree, &anywhere).unwrap();
             element.items.push(text(run));
         }

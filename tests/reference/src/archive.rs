@@ -85,6 +85,7 @@ fn frontier_contents(standing: &Standing, out: &mut Written) {
 ///
 /// If a text is the archive of some versions, then they are its candidates (as version texts in
 /// written form; that of a vacant version is empty). So it is legal exactly if its candidates are legal versions and it is their archive.
+/// A text holding CR is none: a candidate's CR is read as LF, so no archive of the candidates has one.
 pub fn versions(keys: &KeyList, text: &[u8]) -> Outcome<Vec<Version>> {
     let candidates = candidates(text).ok_or(10u32)?;
     let versions: Outcome<Vec<Version>> = candidates.iter().map(|text| version::read(keys, text)).collect();

@@ -1,5 +1,5 @@
-//! The station archive of document 01, with document 02's marks, vacant versions and
-//! longest history line: a second implementation, by the definitions.
+//! The station archive of document 01, with document 02's marks, line ends, vacant
+//! versions and longest history line: a second implementation, by the definitions.
 //!
 //! The archive is computed from the list of versions, never by merging. A text is a legal
 //! archive exactly if it is the archive of the only versions that it can be the archive of.

@@ -2,7 +2,7 @@
 
 use crate::keys::{join, KeyList};
 use crate::written::{escaped_length, Written};
-use crate::xml::{self, is_value, is_white_space, Token};
+use crate::xml::{self, is_value, is_white_space, line_ends, Token};
 use crate::{Outcome, DEPTH, VERSION_BYTES, VERSION_NODES};
 use std::collections::BTreeSet;
 
@@ -23,8 +23,14 @@ pub enum Node {
     Text(Vec<u8>),
 }
 
-/// The version that a text is, or the refusal, 5 to 9.
+/// The version that a text is, or the refusal, 5 to 9. "In a version CR LF and a lone CR are read as LF
+/// before all but the length test of 2" (Q-4), which the calls make.
 pub fn read(keys: &KeyList, text: &[u8]) -> Outcome<Version> {
+    read_received(keys, &line_ends(text))
+}
+
+/// The version that a text is after that step, or the refusal, 5 to 9.
+pub fn read_received(keys: &KeyList, text: &[u8]) -> Outcome<Version> {
     if is_white_space(text) {
         return Ok(None);
     }

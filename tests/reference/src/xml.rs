@@ -1,4 +1,4 @@
-//! The XML subset ("Version texts", first paragraph): bytes, names, tags, text.
+//! The XML subset ("Version texts", first paragraph): bytes, names, line ends, tags, text.
 
 #[derive(Clone, Copy, Debug, PartialEq, Eq)]
 pub enum Class {
@@ -35,6 +35,22 @@ pub fn is_value(bytes: &[u8]) -> bool {
 
 pub fn is_white_space(run: &[u8]) -> bool {
     run.iter().all(|&byte| class(byte) == Class::WhiteSpace)
+}
+
+/// What was received: the text with each CR LF and each lone CR read as LF (Q-4; XML 1.0, section 2.11).
+pub fn line_ends(text: &[u8]) -> Vec<u8> {
+    let mut received = vec![];
+    let mut before = 0;
+    for &byte in text {
+        match (before, byte) {
+            // It has been read with the CR.
+            (b'\r', b'\n') => (),
+            (_, b'\r') => received.push(b'\n'),
+            _ => received.push(byte),
+        }
+        before = byte;
+    }
+    received
 }
 
 /// A text of the subset, part by part. A run stands between two tags, so it is maximal;

@@ -1,5 +1,5 @@
-//! Document 01's six calls, document 02's three over marks and its longest history, with vacant versions, plain and fast:
-//! what one would write for speed, without proofs.
+//! Document 01's six calls, document 02's three over marks and its longest history, with line ends and vacant versions,
+//! plain and fast: what one would write for speed, without proofs.
 //!
 //! Texts are read in one pass into flat arrays; siblings are merged by two pointers; an archive
 //! is checked where it stands, and unchanged parts of it are copied as they are. The work is on

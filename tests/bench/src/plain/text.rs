@@ -1,6 +1,7 @@
 //! Bytes, names and runs of text.
 
-/// Legal in text and the same in written form: any legal byte but `<`, `&`, `>`.
+/// Legal in text and the same in written form: any legal byte but `<`, `&`, `>` and CR, which is
+/// read as LF and in no archive.
 pub const ORDINARY: u8 = 1;
 pub const WHITE: u8 = 2;
 /// Letters, digits, `.`, `-`, `_`.
@@ -10,7 +11,8 @@ pub const START: u8 = 8;
 
 const fn class_of(byte: u8) -> u8 {
     match byte {
-        b'\t' | b'\n' | b'\r' | b' ' => ORDINARY | WHITE,
+        b'\t' | b'\n' | b' ' => ORDINARY | WHITE,
+        b'\r' => WHITE,
         b'A'..=b'Z' | b'a'..=b'z' | b'_' => ORDINARY | NAME | START,
         b'0'..=b'9' | b'.' | b'-' => ORDINARY | NAME,
         b'<' | b'&' | b'>' => 0,
@@ -128,10 +130,10 @@ pub fn ordinary_end(text: &[u8], mut at: usize) -> usize {
     at
 }
 
-/// Without branches, so that it becomes vector instructions. The rare tab, LF and CR count as
-/// not ordinary here and are left to the loop by bytes.
+/// Without branches, so that it becomes vector instructions. The rare tab counts as not ordinary
+/// here and is left to the loop by bytes.
 #[inline]
 fn all_ordinary(chunk: &[u8; 16]) -> bool {
-    let odd = |byte: u8| (byte.wrapping_sub(0x20) > 0x5E) | (byte == b'<') | (byte == b'&') | (byte == b'>');
+    let odd = |byte: u8| ((byte.wrapping_sub(0x20) > 0x5E) & (byte != b'\n')) | (byte == b'<') | (byte == b'&') | (byte == b'>');
     !chunk.iter().fold(false, |any, &byte| any | odd(byte))
 }

@@ -318,7 +318,7 @@ impl Reader<'_> {
         Some(end)
     }
 
-    /// Writes a run; none if it isn't legal text.
+    /// Writes a run, CR LF and a lone CR as LF; none if it isn't legal text.
     fn write_run(&mut self, start: usize) -> Option<usize> {
         let out = &mut self.version.frontiers;
         // What is before `from` has been written.
@@ -329,6 +329,9 @@ impl Reader<'_> {
                 b'<' => break,
                 b'>' if at - start >= 2 && &self.text[at - 2..at] == b"]]" => return None,
                 b'>' => (1, b"&gt;"),
+                // The LF after it is written with what follows.
+                b'\r' if stands(self.text, at + 1, b"\n") => (1, b""),
+                b'\r' => (1, b"\n"),
                 b'&' if stands(self.text, at, b"&quot;") => (6, b"\""),
                 b'&' if stands(self.text, at, b"&apos;") => (6, b"'"),
                 b'&' => {

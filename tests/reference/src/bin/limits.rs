@@ -278,6 +278,32 @@ fn lines() {
     histories("longest history short", &archive, "/s", 2_590);
 }
 
+/// A note whose lines end in this way: in its text, in an element of it, and around both.
+fn note(end: &str, light: &str) -> Vec<u8> {
+    format!("<s>{end}<f>{light}.{end}{end}<by>keeper{end}W</by>{end}</f>{end}</s>{end}").into_bytes()
+}
+
+/// Line ends (Q-4): a note from each tablet, one note saved on all three, archives holding CR, the sizes of 2 and 6.
+fn line_ends() {
+    for (tablet, end) in [("LF", "\n"), ("CR LF", "\r\n"), ("CR", "\r")] {
+        let one = founds(&format!("{tablet} founded"), &note(end, "Fl 5s"), ROOM).bytes;
+        let two = adds(&format!("{tablet} added"), &one, &note(end, "Oc 4s"), ROOM).bytes;
+        adds(&format!("{tablet} added again"), &two, &note(end, "Fl 5s"), ROOM);
+    }
+    let one = found(KEYS, &note("\n", "Fl 5s"), ROOM, WORK_CELLS).bytes;
+    let two = adds("saved on CR LF", &one, &note("\r\n", "Fl 5s"), ROOM).bytes;
+    let three = adds("saved on CR", &two, &note("\r", "Fl 5s"), ROOM).bytes;
+    retrieves("note retrieved", &three, 2, ROOM);
+    histories("note history", &three, "/s/f", ROOM);
+    backs("note back", &three, 1, ROOM);
+    retrieves("archive with CR LF", b"<T t=\"1\"><s><f>a\r\nb</f></s></T>", 1, ROOM);
+    retrieves("archive with CR", b"<T t=\"1\"><s><f>a\rb</f></s></T>", 1, ROOM);
+    retrieves("archive with CR after it", b"<T t=\"1\"><s></s></T>\r", 1, ROOM);
+    founds("16,384 bytes with CR LF", &version("\r\n", 8_185, ""), ROOM);
+    founds("16,384 written with CR LF", &version(">\r\n", 3_274, ""), ROOM);
+    founds("refusal 6 with CR LF", &version(">\r\n", 3_275, ""), ROOM);
+}
+
 fn main() {
     sizes();
     outputs();
@@ -293,4 +319,5 @@ fn main() {
     table_refusals(two);
     vacancies(two);
     lines();
+    line_ends();
 }

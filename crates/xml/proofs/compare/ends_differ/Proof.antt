@@ -33,10 +33,16 @@ returns-4 : tie.Need-returns-4
 returns-4 c = λ t. clash (sym t)
 
 returns-5 : tie.Need-returns-5
-returns-5 c = λ t.
-    let a = c .before .before .before .before .before .before .args in
-    let h = c .before .before .before .before .before .before .pre in
-    ends-other (a .src1 .now) (a .a1) (a .e1) (a .src2 .now) (a .a2) (a .e2) (omega arith) (h .in₁) (omega arith) (h .in₂) (c .before .if3 .left) (c .if4 .left) (eqb-false _ _ (not-true _ t))
+returns-5 c = λ t. clash (sym t)
+
+returns-6 : tie.Need-returns-6
+returns-6 c = λ t. clash (sym t)
+
+returns-7 : tie.Need-returns-7
+returns-7 c = λ t.
+    let a = c .before .before .before .before .before .before .before .before .args in
+    let h = c .before .before .before .before .before .before .before .before .pre in
+    ends-other (a .src1 .now) (a .a1) (a .e1) (a .src2 .now) (a .a2) (a .e2) (omega arith) (h .in₁) (omega arith) (h .in₂) (c .before .before .before .if3 .left) (c .before .before .if4 .left) (c .if6 .left) (c .before .if5 .left) (eqb-false _ _ (not-true _ t))
 
 pub ends-differ-spec : {M : Type 1} → statement M
 ends-differ-spec =
@@ -50,4 +56,6 @@ ends-differ-spec =
     shared-slice-read-c
     returns-3
     returns-4
-    returns-5)
+    returns-5
+    returns-6
+    returns-7)

@@ -1,36 +1,32 @@
--- `xml::scan::has_other` meets its contract. The invariant: where there was no hit, no byte passed is marked, and none is far where there was none.
--- Assumes nothing.
+-- `xml::scan::has_other` meets its contract. The invariant: where there was no hit, each byte passed is plain. Assumes nothing.
 use Prim.Native.Nat.{_+_, _-_, _≤_}
 use native.Mathlib.Omega.{arith}
 use mathlib.Core.Path.{_≡_, sym, _∙_}
-use mathlib.Core.Bool.{false}
+use mathlib.Core.Bool.{true, false}
 use borrow.Author.Needs.{needs}
-use Rattle.xml.specs.Signs.{isMarked}
-use Rattle.xml.specs.Stretch.{Each, isFar, each-none, each-part, each-plain, no-hit}
-use Rattle.xml.specs.Truth.{or-left, or-right}
+use borrow.Author.Tests.{not-false}
+use Rattle.xml.specs.ByteTests.{isPlain}
+use Rattle.xml.specs.Stretch.{Each, each-none, each-part, no-hit}
 use Rattle.xml.proofs.scan.has_other.Statement.{statement}
 use Rattle.xml.proofs.scan.has_other.Tie as tie
 
 abbrev Inv-loop : tie.InvT-loop
-Inv-loop src at count hit₀ far₀ i₀ hit far i = (i ≤ count) × (hit ≡ false → Each isMarked false src at (at + i)) × (far ≡ false → Each isFar false src at (at + i))
+Inv-loop src at count hit₀ i₀ hit i = (i ≤ count) × (hit ≡ false → Each isPlain true src at (at + i))
 
 abbrev μ-loop : tie.MeasureT-loop
-μ-loop src at count hit₀ far₀ i₀ hit far i = count - i
+μ-loop src at count hit₀ i₀ hit i = count - i
 
 loop-holds : tie.Need-loop-holds Inv-loop μ-loop
-loop-holds c = (omega arith, λ h. each-none (omega arith), λ h. each-none (omega arith))
+loop-holds c = (omega arith, λ h. each-none (omega arith))
 
-add-b : tie.Need-add-b Inv-loop μ-loop
-add-b c = omega arith
+add-is-special : tie.Need-add-is-special Inv-loop μ-loop
+add-is-special c = omega arith
 
-shared-slice-read-b : tie.Need-shared-slice-read-b Inv-loop μ-loop
-shared-slice-read-b c = omega arith
+shared-slice-read-is-special : tie.Need-shared-slice-read-is-special Inv-loop μ-loop
+shared-slice-read-is-special c = omega arith
 
-is-marked-requires : tie.Need-is-marked-requires Inv-loop μ-loop
-is-marked-requires c κs = search needs
-
-is-far-requires : tie.Need-is-far-requires Inv-loop μ-loop
-is-far-requires c κs = search needs
+is-special-requires : tie.Need-is-special-requires Inv-loop μ-loop
+is-special-requires c κs = search needs
 
 add-i : tie.Need-add-i Inv-loop μ-loop
 add-i c = omega arith
@@ -40,13 +36,10 @@ loop-less c = omega arith
 
 loop-again : tie.Need-loop-again Inv-loop μ-loop
 loop-again c =
-    let w = c .before .before .before .before .loop in
-    (omega arith, no-hit (w .hit) (c .before .is-marked .result) (w .inv .1) (λ e. sym (c .before .is-marked .ensures) ∙ e) (omega arith), no-hit (w .far) (c .is-far .result) (w .inv .2) (λ e. sym (c .is-far .ensures) ∙ e) (omega arith))
+    (omega arith, no-hit (c .before .before .before .loop .hit) (c .is-special .result) (c .before .before .before .loop .inv .1) (λ e. not-false _ (sym (c .is-special .ensures) ∙ e)) (omega arith))
 
 returns : tie.Need-returns Inv-loop μ-loop
-returns c = λ h.
-    let w = c .before .loop in
-    each-part (each-plain (w .inv .1 (or-left (w .hit) (w .far) h)) (w .inv .2 (or-right (w .hit) (w .far) h))) (omega arith) (omega arith)
+returns c = λ h. each-part (c .before .loop .inv .1 h) (omega arith) (omega arith)
 
 pub has-other-spec : {M : Type 1} → statement M
 has-other-spec =
@@ -55,10 +48,9 @@ has-other-spec =
     Inv-loop
     μ-loop
     loop-holds
-    add-b
-    shared-slice-read-b
-    is-marked-requires
-    is-far-requires
+    add-is-special
+    shared-slice-read-is-special
+    is-special-requires
     add-i
     loop-less
     loop-again

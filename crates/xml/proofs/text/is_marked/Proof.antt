@@ -14,7 +14,7 @@ is-markup-requires c κs = search needs
 returns : tie.Need-returns
 returns c =
     let b = c .before .args .b in
-    ap (λ (t : Bool). t || eqb b (code ">")) (c .is-markup .ensures) ∙ sym (marked-is b)
+    ap (λ (t : Bool). t || eqb b (code ">") || eqb b (code "\r")) (c .is-markup .ensures) ∙ sym (marked-is b)
 
 pub is-marked-spec : {M : Type 1} → statement M
 is-marked-spec = tie.close (tie.spec is-markup-requires returns)
