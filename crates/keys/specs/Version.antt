@@ -150,7 +150,7 @@ unfoldable pub readVersion : Bytes → Outcome
 readVersion s = elim (all isWhite s) [ true ↦ whole end | false ↦ read false s ]
 
 -- the version of a text, in the order of its written form; 5 to 9 of the table. Q-4's "in a version CR LF and a lone CR are read as LF before
--- all but the length test of 2": what was received is `lineEnds s`, here and in no other place, for every call that takes a version
+-- all but the length test of 2": what was received is `lineEnds s`; each call that takes a version asks for it here, and nowhere else
 unfoldable pub version : KeyList → Bytes → Result Forest
 version K s = do
   f ← parsed (readVersion (lineEnds s))
