@@ -19,7 +19,7 @@ use Rattle.xml.specs.declared.Next.the-variants.{Over, On, Off}
 use Rattle.xml.specs.declared.Run.{Run}
 use Rattle.xml.specs.declared.Run.the-variants.{Upto, Stop}
 use Rattle.xml.specs.ScanLaws.{nameRest-cons, nameRest-off, nameLen-cons, nameLen-off, timesLen-cons, timesLen-off, common-cons, common-off, common-self, try-hit, try-miss, begins, further-hit}
-use Rattle.xml.specs.TextLaws.{Reach, byte-reach, byte-over, byte-hit, byte-miss}
+use Rattle.xml.specs.TextLaws.{place, Reach, byte-reach, byte-over, byte-hit, byte-miss}
 
 -- the two texts have m bytes at least, and the first m are the same
 pub data Agrees : ℕ → Bytes → Bytes → Type 0 where
@@ -117,7 +117,7 @@ try-miss-same w b m s s′ o o′ k e h a f = at (eqb (common w s) (length w)) r
         let y : o′ ≡ Miss (x .0) = f (x .0) (omega arith) (x .1) in
         try-miss w b s′ o′ (λ z. no (sym g ∙ z)) ∙ ap (λ (n : ℕ). further n o′) g ∙ ap (further (common w s)) y ∙ ap Miss i
 
-entity-miss-same : (m : ℕ) (s s′ : Bytes) (k : ℕ) → entityAt s ≡ Miss k → k < m → Agrees m s s′ → entityAt s′ ≡ Miss k
+pub entity-miss-same : (m : ℕ) (s s′ : Bytes) (k : ℕ) → entityAt s ≡ Miss k → k < m → Agrees m s s′ → entityAt s′ ≡ Miss k
 unfolding bytes entityAt
 entity-miss-same m s s′ k e h a =
     try-miss-same (bytes "lt;") (code "<") m s s′ _ _ k e h a
@@ -182,7 +182,7 @@ pub apos-hit : (r : Bytes) → entityAt (bytes "apos;" ++ r) ≡ Hit 5 (code "'"
 unfolding read-compute
 apos-hit r = refl
 
-entity-hit-same : (m : ℕ) (s s′ : Bytes) (n c : ℕ) → entityAt s ≡ Hit n c → n ≤ m → Agrees m s s′ → entityAt s′ ≡ Hit n c
+pub entity-hit-same : (m : ℕ) (s s′ : Bytes) (n c : ℕ) → entityAt s ≡ Hit n c → n ≤ m → Agrees m s s′ → entityAt s′ ≡ Hit n c
 unfolding bytes entityAt
 entity-hit-same m s s′ n c e h a =
     ⊎-elim (begun-same (bytes "lt;") (code "<") m s s′ n c lt-hit h a)
@@ -227,10 +227,6 @@ byte-same q b m s s′ a h = at (eqb b (code "<")) refl (eqb b (code "&")) refl 
         let g = byte-miss q b s k p r e in
         let i : 1 + k ≤ m = subst (Enough m) g h in
         byte-miss q b s′ k p r (entity-miss-same m s s′ k e (omega arith) a) ∙ sym g
-
-abbrev pub place : Run → ℕ
-place (Upto m) = m
-place (Stop m) = m
 
 pub scan-ge : (q k n : ℕ) (s : Bytes) → k ≤ length s → n + k ≤ place (scan q k n s)
 unfolding scan

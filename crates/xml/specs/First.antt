@@ -16,7 +16,8 @@ use Rattle.xml.specs.declared.Run.{Run}
 use Rattle.xml.specs.declared.Run.the-variants.{Upto, Stop}
 use Rattle.xml.specs.ScanLaws.{nameLen-fits}
 use Rattle.xml.specs.StepLaws.{StartCase, none, opens, lone, slash, times, bad, start-case, tag-none, tag-open, tag-bad, tag-times, tag-slash, tag-empty, step-chars, chars-upto, chars-stop, step-start, step-end, out-white, out-other, out-second, out-start}
-use Rattle.xml.specs.Agree.{Agrees, more, agrees-take, agrees-drop, getD-same, take-same, nameLen-same, common-same, place, scan-same}
+use Rattle.xml.specs.Agree.{Agrees, more, agrees-take, agrees-drop, getD-same, take-same, nameLen-same, common-same, scan-same}
+use Rattle.xml.specs.TextLaws.{place}
 use Rattle.xml.specs.TimedTags.{is-timed, reachT, times-reach, times-same}
 
 -- ---- one step

@@ -2,10 +2,11 @@
 use Prim.Native.Nat.{ℕ}
 use Prim.Native.Char.{code}
 use mathlib.Core.Path.{_≡_}
-use mathlib.Core.Bool.{Bool, true, false}
+use mathlib.Core.Bool.{Bool, true, false, _&&_}
 use mathlib.Core.List.{List, [], _∷_, _++_}
 use lib.ListN.{getD}
-use Rattle.xml.specs.Bytes.{Bytes, bytes, all, isEmpty, occurs, isWhite, isCharacter, isName, isTimes}
+use Rattle.xml.specs.Bytes.{Bytes, bytes, all, isEmpty, occurs, same, isWhite, isCharacter, isName, isTimes}
+use Rattle.xml.specs.Tags.{Attr, attr, isQuote, inValue, isNew, tagText}
 use Rattle.xml.specs.Forest.{Forest, end, elem, text, stamp, NotText, Root}
 
 -- "the five entities `&lt; &gt; &amp; &quot; &apos;`", and the byte that each stands for
@@ -25,6 +26,17 @@ pub data Characters : Bytes → Bytes → Type 0 where
   joined : {b : ℕ} {s t : Bytes} → b ≡ code "\r" → getD s 0 0 ≡ code "\n" → Characters s t → Characters (b ∷ s) t
   turned : {b : ℕ} {s t : Bytes} → b ≡ code "\r" → (getD s 0 0 ≡ code "\n" → ⊥) → Characters s t → Characters (b ∷ s) (code "\n" ∷ t)
   entity : {e : Bytes} {c : ℕ} {s t : Bytes} → Entity e c → Characters s t → Characters (e ++ s) (c ∷ t)
+
+-- "one space before each, in either quote, `=` without spaces": the attributes of a tag in their order, after those of the names `used`
+pub data Attributes : List Bytes → Bytes → List Attr → Type 0 where
+  none : {used : List Bytes} → Attributes used [] []
+  more : {used : List Bytes} {n s v u : Bytes} {l : List Attr} (q : ℕ) → isNew used n ≡ true → isQuote q ≡ true → Characters s v → all (inValue q) s ≡ true
+      → Attributes (n ∷ used) u l → Attributes used (bytes " " ++ n ++ bytes "=" ++ (q ∷ s) ++ (q ∷ u)) (attr n v ∷ l)
+
+-- what stands between `<` and `>`, the name in it, and the tag that it is: "Written form sorts by name"
+pub data StartTag (a : Bool) : Bytes → Bytes → Bytes → Type 0 where
+  bare : {n : Bytes} → isName n ≡ true → StartTag a n n n
+  attributed : {n u : Bytes} {l : List Attr} → isName n ≡ true → a && same n (bytes "T") ≡ false → Attributes [] u l → StartTag a (n ++ u) n (tagText n l)
 
 -- "An element holds content and content holds elements": a text, and the forest that it spells; `a` where the text is an archive's
 pub data Content (a : Bool) : Bytes → Forest → Type 0 where

@@ -1,5 +1,6 @@
 pub mod Bytes
 pub mod ClassNumber
+pub mod Tags
 pub mod Forest
 pub mod Grammar
 pub mod Read
@@ -21,6 +22,13 @@ pub mod Spelled
 pub mod Words
 pub mod Runs
 pub mod Names
+pub mod Fresh
+pub mod Values
+pub mod ValueBytes
+pub mod UsedNames
+pub mod FreshNames
+pub mod Attrs
+pub mod TagLaws
 pub mod Goes
 pub mod Complete
 pub mod Opened
@@ -29,9 +37,11 @@ pub mod Sound
 pub mod RoundTrip
 pub mod Fits
 pub mod Agree
+pub mod AttrsSame
 pub mod TimedTags
 pub mod First
 pub mod LiveText
+pub mod AttrsLive
 pub mod StepIn
 pub mod Tight
 pub mod Held

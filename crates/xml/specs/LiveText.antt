@@ -20,8 +20,8 @@ use Rattle.xml.specs.declared.Next.the-variants.{Over, On, Off}
 use Rattle.xml.specs.declared.Run.{Run}
 use Rattle.xml.specs.declared.Run.the-variants.{Upto, Stop}
 use Rattle.xml.specs.ScanLaws.{common-cons, common-off, try-hit, try-miss}
-use Rattle.xml.specs.TextLaws.{Reach, byte-reach, byte-over, byte-hit, byte-miss, scan-skip, RunIn, scan-range}
-use Rattle.xml.specs.Agree.{Agrees, agrees-take, byte-same, Enough, further-miss, found-apart, miss-is, lt-hit, gt-hit, amp-hit, quot-hit, apos-hit, place, scan-ge, turn}
+use Rattle.xml.specs.TextLaws.{place, Reach, byte-reach, byte-over, byte-hit, byte-miss, scan-skip, RunIn, scan-range}
+use Rattle.xml.specs.Agree.{Agrees, agrees-take, byte-same, Enough, further-miss, found-apart, miss-is, lt-hit, gt-hit, amp-hit, quot-hit, apos-hit, scan-ge, turn}
 
 -- ---- an entityAt that was begun
 
@@ -55,7 +55,7 @@ last-try w b s k e = at (eqb (common w s) (length w)) refl
         let m : max (common w s) (x .0) ≡ k = x .2 in
         omega arith
 
-entity-live : (s : Bytes) (k : ℕ) → entityAt s ≡ Miss k → Word s k
+pub entity-live : (s : Bytes) (k : ℕ) → entityAt s ≡ Miss k → Word s k
 unfolding bytes entityAt
 entity-live s k e =
     ⊎-elim (λ a. record { word = (bytes "lt;"); byte = 60; hits = lt-hit; agree = a })

@@ -1,17 +1,19 @@
 -- Names and times at the start of a text: those that stand there are counted, and what is counted is one.
-use Prim.Native.Nat.{ℕ, zero, suc, _+_, _-_, _≤_}
+use Prim.Native.Nat.{ℕ, zero, suc, _+_, _-_, _≤_, _<_}
+use Prim.Native.Char.{code}
 use native.Mathlib.Nat.{not-suc-le-zero, le-of-suc-le-suc}
 use native.Mathlib.Omega.{arith}
 use mathlib.Core.Path.{_≡_, refl, ap, sym, _∙_}
-use mathlib.Core.Bool.{Bool, true, false, _&&_}
+use mathlib.Core.Bool.{Bool, true, false, _&&_, _||_}
 use mathlib.Core.List.{[], _∷_, _++_}
-use borrow.Author.Tests.{eqb-true, leb-true, le-leb}
+use borrow.Author.Tests.{eqb-true, ne-eqb, leb-true, leb-false, le-leb, lt-leb}
 use lib.Dec.{eqb, leb}
-use lib.ListN.{length, take, getD}
+use lib.ListN.{length, take, getD, length-append}
 use lib.Seq.{length-take-le}
-use Rattle.xml.specs.Bytes.{Bytes, bytes, all, same, sameBy, isStart, isNameByte, isValue, isName, isTimes, classOf, Class, illegal, white, start, other, markup, plain}
+use Rattle.xml.specs.Bytes.{Bytes, bytes, all, isEmpty, isStart, isNameByte, isValue, isName, isTimes, isLetter, isDigit, among, within, classOf, Class, illegal, white, start, other, markup, plain, bytes-compute}
+use Rattle.xml.specs.GrammarLaws.{classBy}
 use Rattle.xml.specs.Read.{nameRest, nameLen, timesLen}
-use Rattle.xml.specs.Truth.{by-test, clash, both-true, both}
+use Rattle.xml.specs.Truth.{by-test, clash, both-true, both, neither}
 use Rattle.xml.specs.ScanLaws.{nameRest-cons, nameRest-off, nameRest-fits, nameLen-cons, nameLen-off, timesLen-cons, timesLen-off}
 
 -- ---- the same bytes
@@ -127,3 +129,76 @@ times-taken (b ∷ s) = at (isTimes b) refl (times-taken s)
     at : (t : Bool) → isTimes b ≡ t → all isTimes (take (timesLen s) s) ≡ true → all isTimes (take (timesLen (b ∷ s)) (b ∷ s)) ≡ true
     at true e h = rw (timesLen-cons b s e) (both e h)
     at false e h = rw (timesLen-off b s e)
+
+-- ---- parts of a name
+all-left : (f : ℕ → Bool) (s t : Bytes) → all f (s ++ t) ≡ true → all f s ≡ true
+unfolding all
+all-left f [] t e = refl
+all-left f (b ∷ s) t e = let i = both-true (f b) (all f (s ++ t)) e in both (i .0) (all-left f s t (i .1))
+
+all-at : (f : ℕ → Bool) (s t : Bytes) (c : ℕ) → all f (s ++ c ∷ t) ≡ true → f c ≡ true
+unfolding all
+all-at f [] t c e = both-true (f c) (all f t) e .0
+all-at f (b ∷ s) t c e = all-at f s t c (both-true (f b) (all f (s ++ c ∷ t)) e .1)
+
+-- what begins a name is one
+pub name-prefix : (q t : Bytes) → isName (q ++ t) ≡ true → isEmpty q ≡ false → isName q ≡ true
+unfolding isEmpty
+name-prefix [] t a e = clash e
+name-prefix (b ∷ q) t a e =
+    let p = name-parts b (q ++ t) a in
+    let l = p .short in
+    parts-name b q (record { first = p .first; more = all-left isNameByte q t (p .more); short = omega (arith, length-append q t) })
+
+pub name-bytes : (n : Bytes) → isName n ≡ true → all isNameByte n ≡ true
+unfolding isName all
+name-bytes [] a = clash (sym a)
+name-bytes (b ∷ n) a = let p = name-parts b n a in both (start-name b (p .first)) (p .more)
+
+pub name-short : (n : Bytes) → isName n ≡ true → length n ≤ 32
+unfolding isName
+name-short [] a = clash (sym a)
+name-short (b ∷ n) a = let l = name-parts b n a .short in omega arith
+
+-- each of its bytes is of a name
+pub name-at : (q t : Bytes) (c : ℕ) → isName (q ++ c ∷ t) ≡ true → isNameByte c ≡ true
+name-at q t c a = all-at isNameByte q t c (name-bytes (q ++ c ∷ t) a)
+
+-- and is a small number
+class-name : (w n d m p : Bool) → n ≡ false → d ≡ false →
+    elim (classBy w n d m p) [ illegal ↦ false | white ↦ false | start ↦ true | other ↦ true | markup ↦ false | plain ↦ false ] ≡ false
+class-name true n d m p e f = refl
+class-name false true d m p e f = e
+class-name false false true m p e f = f
+class-name false false false true p e f = refl
+class-name false false false false true e f = refl
+class-name false false false false false e f = refl
+
+and-not : (a b : Bool) → b ≡ false → a && b ≡ false
+and-not true b e = e
+and-not false b e = refl
+
+pub name-small : (b : ℕ) → isNameByte b ≡ true → b < 128
+unfolding bytes-compute
+name-small b e =
+    by-test (leb 128 b)
+    (λ h.
+    let g = leb-true 128 b h in
+    clash (sym e
+    ∙ class-name (among "\t\n\r " b) (isLetter b || eqb b (code "_")) (isDigit b || among ".-" b) (among "<&" b) (within 0x20 0x7E b)
+    (neither (neither (and-not (leb 65 b) (leb b 90) (lt-leb b 90 (omega arith))) (and-not (leb 97 b) (leb b 122) (lt-leb b 122 (omega arith)))) (ne-eqb b 95 (λ x. omega arith)))
+    (neither (and-not (leb 48 b) (leb b 57) (lt-leb b 57 (omega arith))) (neither (ne-eqb b 46 (λ x. omega arith)) (neither (ne-eqb b 45 (λ x. omega arith)) refl)))))
+    (λ h. leb-false 128 b h)
+
+all-more : (f : ℕ → Bool) (s : Bytes) (c : ℕ) → all f s ≡ true → f c ≡ true → all f (s ++ c ∷ []) ≡ true
+unfolding all
+all-more f [] c a e = both e refl
+all-more f (b ∷ s) c a e = let i = both-true (f b) (all f s) a in both (i .0) (all-more f s c (i .1) e)
+
+-- a byte more
+pub name-more : (q : Bytes) (c : ℕ) → isName q ≡ true → isNameByte c ≡ true → length q < 32 → isName (q ++ c ∷ []) ≡ true
+unfolding isName
+name-more [] c a e h = clash (sym a)
+name-more (b ∷ q) c a e h =
+    let p = name-parts b q a in
+    parts-name b (q ++ c ∷ []) (record { first = p .first; more = all-more isNameByte q c (p .more) e; short = omega (arith, length-append q (c ∷ [])) })

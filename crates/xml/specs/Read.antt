@@ -4,10 +4,11 @@ use Prim.Native.Nat.{ℕ, zero, suc, _+_, _-_, max}
 use Prim.Native.Char.{code}
 use mathlib.Core.Path.{_≡_, refl}
 use mathlib.Core.Bool.{Bool, true, false, _&&_, _||_}
-use mathlib.Core.List.{List, [], _∷_, _++_}
+use mathlib.Core.List.{List, [], _∷_, _++_, map}
 use lib.Dec.{eqb, leb}
 use lib.ListN.{length, take, drop, getD}
-use Rattle.xml.specs.Bytes.{Bytes, bytes, same, isWhite, isLegal, isStart, isNameByte, isTimes, bytes-compute}
+use Rattle.xml.specs.Bytes.{Bytes, bytes, same, isWhite, isLegal, isCharacter, isStart, isNameByte, isTimes, bytes-compute}
+use Rattle.xml.specs.Tags.{Attr, attr, nameOf, parts, tagText, isQuote, inValue, isNew, fresh, newLen, tags-compute}
 use Rattle.xml.specs.Forest.{Forest, end, elem, text, stamp, join, write, forest-compute}
 use Rattle.xml.specs.declared.Found.{Found}
 use Rattle.xml.specs.declared.Found.the-variants.{Hit, Miss}
@@ -92,6 +93,65 @@ unfoldable pub scan : ℕ → ℕ → ℕ → Bytes → Run
 scan q k n [] = Upto n
 scan q (suc k) n (b ∷ s) = scan q k (n + 1) s
 scan q zero n (b ∷ s) = elim (textByte q b s) [ Over ↦ Upto n | On k r ↦ scan r k (n + 1) s | Off k ↦ Stop (n + k) ]
+
+-- ---- what stands in a start tag
+-- a byte b of a value between quotes q, with s after it: the value ends here; or it goes on, after k bytes more of an entity; or the
+-- byte so many bytes on is wrong
+unfoldable pub valueByte : ℕ → ℕ → Bytes → Next
+valueByte q b s =
+    elim (eqb b q) [
+      | true ↦ Over
+      | false ↦
+          elim (eqb b (code "&")) [
+            | true ↦ elim (entityAt s) [ Hit k c ↦ On k 0 | Miss k ↦ Off (1 + k) ]
+            | false ↦
+                elim (isCharacter b && inValue q b) [ true ↦ On 0 0 | false ↦ Off 0 ]
+          ]
+    ]
+
+-- how far a value goes: up to the quote; or it stops at a wrong byte, or at the end of the text. n is the number of bytes passed
+unfoldable pub value : ℕ → ℕ → ℕ → Bytes → Run
+value q k n [] = Stop n
+value q (suc k) n (b ∷ s) = value q k (n + 1) s
+value q zero n (b ∷ s) = elim (valueByte q b s) [ Over ↦ Upto n | On k r ↦ value q k (n + 1) s | Off k ↦ Stop (n + k) ]
+
+-- after the space before an attribute: its name has m bytes, which begin a new name. The bytes after the space that it takes, or how
+-- far from the space the wrong byte stands
+unfoldable pub attrOf : List Bytes → Bytes → ℕ → Next
+attrOf used s m =
+    elim (isNew used (take m s) && eqb (getD s m 0) (code "=")) [
+      | false ↦ Off (1 + m)
+      | true ↦
+          elim (isQuote (getD s (1 + m) 0)) [
+            | false ↦ Off (2 + m)
+            | true ↦
+                elim (value (getD s (1 + m) 0) 0 0 (drop (2 + m) s)) [ Upto k ↦ On (3 + m + k) 0 | Stop k ↦ Off (3 + m + k) ]
+          ]
+    ]
+
+-- a byte after a name or an attribute: what is in the tag is over; or an attribute more goes on for so many bytes, or is wrong
+unfoldable pub attrByte : List Bytes → ℕ → Bytes → Next
+attrByte used b s = elim (eqb b (code " ") && fresh 32 used []) [ true ↦ attrOf used s (newLen used s) | false ↦ Over ]
+
+-- how far attributes go, after those with the names `used`; k bytes are to be skipped, n were passed
+unfoldable pub attrs : List Bytes → ℕ → ℕ → Bytes → Run
+attrs used k n [] = Upto n
+attrs used (suc k) n (b ∷ s) = attrs used k (n + 1) s
+attrs used zero n (b ∷ s) = elim (attrByte used b s) [ Over ↦ Upto n | On k r ↦ attrs (take (newLen used s) s ∷ used) k (n + 1) s | Off k ↦ Stop (n + k) ]
+
+-- how long what stands in a start tag is, of which the name has n bytes; an archive's `T` has no attributes
+unfoldable pub tagFrom : Bool → Bytes → ℕ → Run
+tagFrom a s n = elim (eqb n 0 || a && same (take n s) (bytes "T")) [ true ↦ Upto n | false ↦ attrs [] 0 n (drop n s) ]
+
+abbrev pub tagLen : Bool → Bytes → Run
+tagLen a s = tagFrom a s (nameLen s)
+
+-- the tag that it means
+unfoldable pub means : Attr → Attr
+means (attr n s) = attr n (unescape 0 s)
+
+unfoldable pub tagOf : Bytes → Bytes
+tagOf s = tagText (nameOf s) (map means (parts 0 s))
 
 -- ---- what is open: an element, or an archive's `T`
 pub data Tag : Type 0 where
@@ -202,7 +262,7 @@ unfoldable pub read : Bool → Bytes → Outcome
 read a s = go a outer end 0 0 s
 
 unfoldable pub read-compute : Unit {0}
-unfolding forest-compute common nameRest nameLen timesLen further try entityAt unescape textByte scan isEnd timesEnd timesOf startOf endOf characters step finish go read
+unfolding tags-compute forest-compute common nameRest nameLen timesLen further try entityAt unescape textByte scan valueByte value attrOf attrByte attrs tagFrom means tagOf isEnd timesEnd timesOf startOf endOf characters step finish go read
 read-compute = tt
 
 unfoldable pub written : Outcome → Bytes

@@ -114,6 +114,11 @@ module _ (src : Bytes) (q n j : ℕ) where
   pub here-reach : Reach q (length src - (j + 1)) Here
   here-reach = rw (← length-drop (j + 1) src) (byte-reach q (getD src j 0) (drop (j + 1) src))
 
+-- where it ends, or stops
+abbrev pub place : Run → ℕ
+place (Upto m) = m
+place (Stop m) = m
+
 -- where a run ends: between lo and hi; a wrong byte stands at hi at most
 abbrev pub RunIn : ℕ → ℕ → Run → Type 0
 RunIn lo hi (Upto m) = (lo ≤ m) × (m ≤ hi)
