@@ -28,6 +28,7 @@ pub mod ValueBytes
 pub mod UsedNames
 pub mod FreshNames
 pub mod Attrs
+pub mod NameOrder
 pub mod TagLaws
 pub mod Goes
 pub mod Complete
@@ -57,6 +58,8 @@ pub mod SignLaws
 pub mod WriteLaws
 pub mod SameTapes
 pub mod CompareLaws
+pub mod NameCells
+pub mod NameCellLaws
 pub mod Alike
 pub mod Ends
 pub mod Neat

@@ -6,8 +6,8 @@ use native.Mathlib.Omega.{arith}
 use mathlib.Core.Path.{_≡_, refl, ap, ap₂, sym, _∙_, subst}
 use mathlib.Core.Bool.{Bool, true, false, not, _&&_, _||_}
 use mathlib.Core.List.{List, [], _∷_, _++_, append-assoc, append-nil, map}
-use borrow.Author.Tests.{eq-eqb, ne-eqb, eqb-true, eqb-false, ltb-true, le-ltb}
-use lib.Dec.{eqb, ltb}
+use borrow.Author.Tests.{eq-eqb, ne-eqb, eqb-true, eqb-false}
+use lib.Dec.{eqb}
 use lib.ListN.{length, take, drop, getD, length-append, length-drop}
 use lib.Seq.{take-append-seam, drop-append-seam, getD-append-add, drop-append-add, take-add}
 use Rattle.xml.specs.Bytes.{Bytes, bytes, any, all, same, isLegal, isCharacter, isStart, isNameByte, isName, among, bytes-compute}
@@ -21,6 +21,7 @@ use Rattle.xml.specs.BytesLaws.{same-is, same-self}
 use Rattle.xml.specs.GrammarLaws.{characters-mean, character-legal, legal-character}
 use Rattle.xml.specs.ScanLaws.{nameLen-fits}
 use Rattle.xml.specs.TextLaws.{place}
+use Rattle.xml.specs.NameOrder.{less-asym}
 use Rattle.xml.specs.Names.{name-all, name-some, name-first, name-taken, name-bytes, name-short}
 use Rattle.xml.specs.Fresh.{new-name, new-unused, unused-new}
 use Rattle.xml.specs.Values.{no-return-first, all-append}
@@ -423,22 +424,6 @@ attributes-fine none = tt
 attributes-fine (more q new quote c within r) = (new, characters-meant q c within, attributes-fine r)
 
 -- ---- their order
-less-asym : (s t : Bytes) → less s t ≡ true → less t s ≡ false
-unfolding less
-less-asym [] [] e = refl
-less-asym (a ∷ s) [] e = clash (sym e)
-less-asym [] (b ∷ t) e = refl
-less-asym (a ∷ s) (b ∷ t) e = at (ltb a b) refl (eqb a b) refl e (λ h. less-asym s t h)
-  where
-    at : (x : Bool) → ltb a b ≡ x → (y : Bool) → eqb a b ≡ y → x || y && less s t ≡ true → (less s t ≡ true → less t s ≡ false) → ltb b a || eqb b a && less t s ≡ false
-    at true p y g h ih = let l = ltb-true a b p in rw (le-ltb b a (omega arith), ne-eqb b a (λ (z : b ≡ a). omega arith)) refl
-    at false p true g h ih = let i = eqb-true a b g in let l = ih h in rw (le-ltb b a (omega arith), l) (off (eqb b a))
-      where
-        off : (x : Bool) → x && false ≡ false
-        off true = refl
-        off false = refl
-    at false p false g h ih = clash (sym h)
-
 abbrev Below : Attr → List Attr → Type 0
 Below x [] = Unit {0}
 Below x (y ∷ l) = less (attrName y) (attrName x) ≡ false
