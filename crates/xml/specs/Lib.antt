@@ -62,6 +62,8 @@ pub mod NameCells
 pub mod NameCellLaws
 pub mod Alike
 pub mod Ends
+pub mod Matching
+pub mod MatchingLaws
 pub mod Neat
 pub mod NeatLaws
 pub mod NeatWritten

@@ -1,6 +1,7 @@
 // The XML subset: what a reader's functions answer. The definitions are in specs/.
 pub mod class;
 pub mod compare;
+pub mod matching;
 pub mod names;
 pub mod panel;
 pub mod reader;
