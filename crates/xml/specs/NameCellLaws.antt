@@ -1,4 +1,4 @@
--- Laws of names that are noted in cells: how a name is found among them by halving, and put in its place.
+-- Laws of names that are noted in cells: how two names are compared, and how a name is found among the cells by halving and put in its place.
 use Prim.Native.Nat.{ℕ, _+_, _-_, _/_, _%_, _<_, _≤_}
 use mathlib.Core.Path.{_≡_, refl, ap, ap₂, sym, _∙_, subst}
 use mathlib.Core.Bool.{true, false}
@@ -7,14 +7,32 @@ use native.Mathlib.Omega.{arith}
 use borrow.Author.Tests.{eqb-true, eqb-false, ltb-true, ltb-false}
 use lib.Dec.{eqb, ltb}
 use lib.ListN.{length, getD, set, length-set}
-use lib.Seq.{slice, getD-set-same, getD-set-other}
+use lib.Seq.{slice, slice-empty, getD-set-same, getD-set-other}
 use Rattle.xml.specs.Bytes.{Bytes, any, same}
 use Rattle.xml.specs.BytesLaws.{same-is, same-self}
 use Rattle.xml.specs.Tags.{less}
-use Rattle.xml.specs.NameOrder.{less-self, less-trans, less-total}
+use Rattle.xml.specs.NameOrder.{less-more, less-other, less-nil, less-self, less-trans, less-total}
 use Rattle.xml.specs.NameCells.{cellOf, nameIn, InText, cellAt, nameAt, NameCells, Parted, Shifted, Below}
+use Rattle.xml.specs.SignLaws.{slice-first}
 use Rattle.xml.specs.Truth.{by-test, clash, not-so, or-first, or-second}
 
+-- ---- the order of two names, at a place of each of two texts
+module _ (src₁ : Bytes) (i e₁ : ℕ) (src₂ : Bytes) (j e₂ : ℕ) (l : j < e₂) (m : e₂ ≤ length src₂) where
+  pub order-first : i ≡ e₁ → less (slice i e₁ src₁) (slice j e₂ src₂) ≡ true
+  unfolding less
+  order-first e = rw (e, slice-empty e₁ src₁, slice-first j e₂ src₂ l m)
+
+  module _ (h : i < e₁) (k : e₁ ≤ length src₁) where
+    pub order-more : getD src₁ i 0 ≡ getD src₂ j 0 → less (slice i e₁ src₁) (slice j e₂ src₂) ≡ less (slice (i + 1) e₁ src₁) (slice (j + 1) e₂ src₂)
+    order-more e = rw (slice-first i e₁ src₁ h k, slice-first j e₂ src₂ l m) (less-more _ _ _ _ e)
+
+    pub order-other : (getD src₁ i 0 ≡ getD src₂ j 0 → ⊥) → less (slice i e₁ src₁) (slice j e₂ src₂) ≡ ltb (getD src₁ i 0) (getD src₂ j 0)
+    order-other n = rw (slice-first i e₁ src₁ h k, slice-first j e₂ src₂ l m) (less-other _ _ _ _ n)
+
+pub order-over : (s src₂ : Bytes) (j e₂ : ℕ) → j ≡ e₂ → less s (slice j e₂ src₂) ≡ false
+order-over s src₂ j e₂ e = rw (e, slice-empty e₂ src₂) (less-nil s)
+
+-- ---- cells
 pub no-names : {src cells : List ℕ} {base : ℕ} → base ≤ length cells → NameCells src cells base 0 []
 unfolding any
 no-names h =

@@ -1,28 +1,25 @@
--- The order of names, as byte strings with a prefix first: it is strict and total. And it is told byte by byte, at places of two texts.
-use Prim.Native.Nat.{ℕ, _+_, _<_, _≤_}
+-- The order of names, as byte strings with a prefix first: it is strict and total.
+use Prim.Native.Nat.{ℕ, _≤_}
 use mathlib.Core.Path.{_≡_, refl, ap₂, sym, _∙_}
 use mathlib.Core.Bool.{true, false}
 use mathlib.Core.List.{[], _∷_}
 use native.Mathlib.Omega.{arith}
 use borrow.Author.Tests.{eq-eqb, ne-eqb, eqb-true, eqb-false, ltb-true, ltb-false, lt-ltb, le-ltb}
 use lib.Dec.{eqb, ltb}
-use lib.ListN.{length, getD}
-use lib.Seq.{slice, slice-empty}
 use Rattle.xml.specs.Bytes.{Bytes}
 use Rattle.xml.specs.Tags.{less}
 use Rattle.xml.specs.Truth.{by-test, clash, not-so}
-use Rattle.xml.specs.SignLaws.{slice-first}
 
 -- ---- the first bytes decide, or where they are equal the rest
-less-more : (a b : ℕ) (s t : Bytes) → a ≡ b → less (a ∷ s) (b ∷ t) ≡ less s t
+pub less-more : (a b : ℕ) (s t : Bytes) → a ≡ b → less (a ∷ s) (b ∷ t) ≡ less s t
 unfolding less
 less-more a b s t e = rw (le-ltb a b (omega arith), eq-eqb a b e)
 
-less-other : (a b : ℕ) (s t : Bytes) → (a ≡ b → ⊥) → less (a ∷ s) (b ∷ t) ≡ ltb a b
+pub less-other : (a b : ℕ) (s t : Bytes) → (a ≡ b → ⊥) → less (a ∷ s) (b ∷ t) ≡ ltb a b
 unfolding less
 less-other a b s t n = rw (ne-eqb a b n) (by-test (ltb a b) (λ e. rw e) (λ e. rw e))
 
-less-nil : (s : Bytes) → less s [] ≡ false
+pub less-nil : (s : Bytes) → less s [] ≡ false
 unfolding less
 less-nil [] = refl
 less-nil (a ∷ s) = refl
@@ -67,19 +64,3 @@ less-total (a ∷ s) (b ∷ t) p q =
     (λ x.
     let n = eqb-false a b x in
     absurd (omega (arith, ltb-false a b (sym (less-other a b s t n) ∙ p), ltb-false b a (sym (less-other b a t s (λ y. n (sym y))) ∙ q))))
-
--- ---- at a place of each of two texts
-module _ (src₁ : Bytes) (i e₁ : ℕ) (src₂ : Bytes) (j e₂ : ℕ) (l : j < e₂) (m : e₂ ≤ length src₂) where
-  pub order-first : i ≡ e₁ → less (slice i e₁ src₁) (slice j e₂ src₂) ≡ true
-  unfolding less
-  order-first e = rw (e, slice-empty e₁ src₁, slice-first j e₂ src₂ l m)
-
-  module _ (h : i < e₁) (k : e₁ ≤ length src₁) where
-    pub order-more : getD src₁ i 0 ≡ getD src₂ j 0 → less (slice i e₁ src₁) (slice j e₂ src₂) ≡ less (slice (i + 1) e₁ src₁) (slice (j + 1) e₂ src₂)
-    order-more e = rw (slice-first i e₁ src₁ h k, slice-first j e₂ src₂ l m) (less-more _ _ _ _ e)
-
-    pub order-other : (getD src₁ i 0 ≡ getD src₂ j 0 → ⊥) → less (slice i e₁ src₁) (slice j e₂ src₂) ≡ ltb (getD src₁ i 0) (getD src₂ j 0)
-    order-other n = rw (slice-first i e₁ src₁ h k, slice-first j e₂ src₂ l m) (less-other _ _ _ _ n)
-
-pub order-over : (s src₂ : Bytes) (j e₂ : ℕ) → j ≡ e₂ → less s (slice j e₂ src₂) ≡ false
-order-over s src₂ j e₂ e = rw (e, slice-empty e₂ src₂) (less-nil s)

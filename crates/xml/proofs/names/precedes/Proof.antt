@@ -4,7 +4,7 @@ use native.Mathlib.Omega.{arith}
 use mathlib.Core.Path.{_≡_, refl, sym, _∙_}
 use lib.Seq.{slice}
 use Rattle.xml.specs.Tags.{less}
-use Rattle.xml.specs.NameOrder.{order-first, order-more, order-other, order-over}
+use Rattle.xml.specs.NameCellLaws.{order-first, order-more, order-other, order-over}
 use Rattle.xml.proofs.names.precedes.Statement.{statement}
 use Rattle.xml.proofs.names.precedes.Tie as tie
 
