@@ -138,7 +138,7 @@ attrs-range used zero n (b ∷ s) h = turn (attrByte used b s) (attr-reach used 
     turn (Off k) g f = omega arith
 
 -- ---- attributes are scanned
-equals-name : isNameByte (code "=") ≡ false
+pub equals-name : isNameByte (code "=") ≡ false
 unfolding bytes-compute
 equals-name = refl
 
@@ -241,6 +241,43 @@ parted s m e h =
     split-at s m 0 (omega arith) ∙ ap₂ (λ (x : ℕ) (y : Bytes). take m s ++ x ∷ y) e (drop-cons s (suc m) 0 i)
     ∙ ap₂ (λ (x y : ℕ). take m s ++ code "=" ∷ getD s x 0 ∷ drop y s) (sym j) (sym k)
 
+-- an attribute that goes on for k bytes after its space
+pub record Stands (used : List Bytes) (b : ℕ) (s : Bytes) (k : ℕ) : Type 0 where
+  pub quote : ℕ
+  pub raw : Bytes
+  pub rest : Bytes
+  pub meaning : Bytes
+  pub new : isNew used (take (newLen used s) s) ≡ true
+  pub quoted : isQuote quote ≡ true
+  pub means : Characters raw meaning
+  pub within : all (inValue quote) raw ≡ true
+  pub is : b ∷ s ≡ code " " ∷ After (take (newLen used s) s) quote raw rest
+  pub after : drop k s ≡ rest
+  pub long : k ≡ 3 + newLen used s + length raw
+
+pub attr-stands : (used : List Bytes) (b : ℕ) (s : Bytes) (k : ℕ) → Begins used b s → Named used b s true → Quoted used b s true → valueAt s (newLen used s) ≡ Upto k → Stands used b s (3 + newLen used s + k)
+attr-stands used b s k x z w v =
+    let M = newLen used s in
+    let q : ℕ = getD s (1 + M) 0 in
+    let new = both-true (isNew used (take M s)) (eqb (getD s M 0) (code "=")) z in
+    let r = value-sound (drop (2 + M) s) q 0 0 k w (omega arith) v in
+    let l = r .long in
+    let kr : 3 + M + k ≡ 2 + M + (length (r .raw) + 1) = omega arith in
+    let c : b ≡ code " " = eqb-true b (code " ") (both-true (eqb b (code " ")) (fresh 32 used []) x .0) in
+    record {
+      quote = q;
+      raw = r .raw;
+      rest = r .rest;
+      meaning = r .meaning;
+      new = new .0;
+      quoted = w;
+      means = r .means;
+      within = r .within;
+      is = ap₂ (λ (i : ℕ) (j : Bytes). i ∷ j) c (parted s M (eqb-true (getD s M 0) (code "=") (new .1)) (quote-in s (1 + M) w) ∙ ap (λ (j : Bytes). take M s ++ code "=" ∷ q ∷ j) (r .is));
+      after = ap (λ (i : ℕ). drop i s) kr ∙ sym (drop-drop (length (r .raw) + 1) (2 + M) s) ∙ ap (drop (length (r .raw) + 1)) (r .is) ∙ drop-append-add (r .raw) (q ∷ r .rest) 1;
+      long = omega arith;
+    }
+
 pub attrs-sound : (s : Bytes) (used : List Bytes) (k n m : ℕ) → k ≤ length s → attrs used k n s ≡ Upto m → Tagged used (n + k) m (drop k s)
 unfolding attrs
 attrs-sound [] used zero n m l e =
@@ -267,30 +304,16 @@ attrs-sound (b ∷ s) used zero n m l e =
     turn o (unquoted x z w) y f g = apart _ g
     turn o (stops x z w v) y f g = apart _ g
     turn o (goes {k = k} x z w v) y f g =
-        let M = newLen used s in
-        let name = take M s in
-        let q : ℕ = getD s (1 + M) 0 in
-        let new = both-true (isNew used name) (eqb (getD s M 0) (code "=")) z in
-        let in-text = quote-in s (1 + M) w in
-        let r = value-sound (drop (2 + M) s) q 0 0 k w (omega arith) v in
-        let K : ℕ = 3 + M + k in
-        let kl = r .long in
-        let h = f K y g in
+        let name = take (newLen used s) s in
+        let r = attr-stands used b s k x z w v in
+        let h = f (3 + newLen used s + k) y g in
+        let l = r .long in
         let hl = h .long in
-        let p : s ≡ name ++ code "=" ∷ q ∷ drop (2 + M) s = parted s M (eqb-true (getD s M 0) (code "=") (new .1)) in-text in
-        let kr : K ≡ 2 + M + (length (r .raw) + 1) = omega arith in
-        let d : drop K s ≡ r .rest =
-        ap (λ (i : ℕ). drop i s) kr ∙ sym (drop-drop (length (r .raw) + 1) (2 + M) s) ∙ ap (drop (length (r .raw) + 1)) (r .is) ∙ drop-append-add (r .raw) (q ∷ r .rest) 1
-        in
-        let c : b ≡ code " " = eqb-true b (code " ") (both-true (eqb b (code " ")) (fresh 32 used []) x .0) in
-        let t : b ∷ s ≡ code " " ∷ After name q (r .raw) (h .raw ++ h .rest) =
-        ap₂ (λ (i : ℕ) (j : Bytes). i ∷ j) c (p ∙ ap (λ (j : Bytes). name ++ code "=" ∷ q ∷ j) (r .is ∙ ap (λ (j : Bytes). r .raw ++ q ∷ j) (sym d ∙ h .is)))
-        in
         record {
-          raw = bytes " " ++ name ++ bytes "=" ++ (q ∷ r .raw) ++ (q ∷ h .raw);
+          raw = bytes " " ++ name ++ bytes "=" ++ (r .quote ∷ r .raw) ++ (r .quote ∷ h .raw);
           rest = h .rest;
           list = attr name (r .meaning) ∷ h .list;
-          is = t ∙ sym (more-text name (r .raw) (h .raw) (h .rest) q);
-          long = omega (arith, more-long name (r .raw) (h .raw) q, length-take-le M s (freshLen-fits 32 used [] s));
-          spells = more q (new .0) w (r .means) (r .within) (h .spells);
+          is = r .is ∙ ap (λ (j : Bytes). code " " ∷ After name (r .quote) (r .raw) j) (sym (r .after) ∙ h .is) ∙ sym (more-text name (r .raw) (h .raw) (h .rest) (r .quote));
+          long = omega (arith, more-long name (r .raw) (h .raw) (r .quote), length-take-le (newLen used s) s (freshLen-fits 32 used [] s));
+          spells = more (r .quote) (r .new) (r .quoted) (r .means) (r .within) (h .spells);
         }

@@ -1,15 +1,18 @@
 -- Names that are new in a tag: `fresh` says whether a beginning can still become one, and `newLen` how far a text begins one.
-use Prim.Native.Nat.{ℕ, zero, suc, _+_, _≤_, _<_}
+use Prim.Native.Nat.{ℕ, zero, suc, _+_, _-_, _≤_, _<_}
 use native.Mathlib.Nat.{not-suc-le-zero, le-of-suc-le-suc}
 use native.Mathlib.Omega.{arith}
-use mathlib.Core.Path.{_≡_, refl, ap, sym, _∙_, subst}
+use mathlib.Core.Path.{_≡_, refl, ap, ap₂, sym, _∙_, subst}
 use mathlib.Core.Bool.{Bool, true, false, not, _||_}
 use mathlib.Core.List.{List, [], _∷_, _++_, append-assoc, append-nil, List·Memᴰ, List·Memᴰ·head, List·Memᴰ·tail}
 use borrow.Author.Tests.{eqb-true, eqb-false}
 use lib.Dec.{eqb}
-use lib.ListN.{length, take}
-use Rattle.xml.specs.Bytes.{Bytes, any, same, isEmpty, isNameByte, isName}
+use lib.ListN.{length, take, drop, take-append-drop}
+use lib.Seq.{length-take-le}
+use Rattle.xml.specs.Bytes.{Bytes, any, same, isEmpty, isStart, isNameByte, isName}
 use Rattle.xml.specs.Tags.{isNew, below, fresh, freshLen, newLen}
+use Rattle.xml.specs.Read.{nameRest, nameLen}
+use Rattle.xml.specs.ScanLaws.{nameRest-cons, nameRest-off, nameRest-fits, nameLen-cons, nameLen-off}
 use Rattle.xml.specs.Truth.{by-test, clash, both-true, not-so, any-mem, mem-any, or-first, or-second}
 use Rattle.xml.specs.Names.{name-prefix, name-at, name-small, name-short}
 
@@ -40,7 +43,7 @@ below-mem (suc n) b h =
     less : (b ≡ n → ⊥) → b < n
     less d = omega arith
 
-fresh-new : (k : ℕ) (used : List Bytes) (q : Bytes) → isNew used q ≡ true → fresh k used q ≡ true
+pub fresh-new : (k : ℕ) (used : List Bytes) (q : Bytes) → isNew used q ≡ true → fresh k used q ≡ true
 unfolding fresh
 fresh-new zero used q e = e
 fresh-new (suc k) used q e = rw (e, fresh)
@@ -112,20 +115,61 @@ no-name k used q c e =
     clash (sym (name-at q (g .rest) c n) ∙ e))
 
 -- a new name that stands there is counted whole
-pub freshLen-all : (t : Bytes) (k : ℕ) (used : List Bytes) (q : Bytes) (c : ℕ) (s : Bytes) → isNew used (q ++ t) ≡ true → length t ≤ k → isNameByte c ≡ false →
-    freshLen k used q (t ++ c ∷ s) ≡ length t
-unfolding freshLen
-freshLen-all [] zero used q c s e h d = refl
-freshLen-all [] (suc k) used q c s e h d = freshLen-off k used q c s (no-name k used q c d)
-freshLen-all (b ∷ t) zero used q c s e h d = absurd (not-suc-le-zero h)
-freshLen-all (b ∷ t) (suc k) used q c s e h d =
+freshLen-past : (t : Bytes) (k : ℕ) (used : List Bytes) (q s : Bytes) → isNew used (q ++ t) ≡ true → length t ≤ k → freshLen k used q (t ++ s) ≡ length t + freshLen (k - length t) used (q ++ t) s
+freshLen-past [] k used q s e h = let z : k - 0 ≡ k = omega arith in rw (z, append-nil) (omega arith)
+freshLen-past (b ∷ t) zero used q s e h = absurd (not-suc-le-zero h)
+freshLen-past (b ∷ t) (suc k) used q s e h =
     let i : (q ++ b ∷ []) ++ t ≡ q ++ b ∷ t = append-assoc q (b ∷ []) t in
     let n : isNew used ((q ++ b ∷ []) ++ t) ≡ true = subst (λ (x : Bytes). isNew used x ≡ true) (sym i) e in
-    freshLen-cons k used q b (t ++ c ∷ s) (fresh-complete t k used (q ++ b ∷ []) n (le-of-suc-le-suc h))
-    ∙ ap suc (freshLen-all t k used (q ++ b ∷ []) c s n (le-of-suc-le-suc h) d)
+    let z : k - length t ≡ suc k - suc (length t) = omega arith in
+    omega (
+      arith,
+      freshLen-cons k used q b (t ++ s) (fresh-complete t k used (q ++ b ∷ []) n (le-of-suc-le-suc h)),
+      freshLen-past t k used (q ++ b ∷ []) s n (le-of-suc-le-suc h),
+      ap₂ (λ (l : ℕ) (x : Bytes). freshLen l used x s) z i,
+    )
+
+freshLen-none : (k : ℕ) (used : List Bytes) (q : Bytes) (c : ℕ) (s : Bytes) → isNameByte c ≡ false → freshLen k used q (c ∷ s) ≡ 0
+unfolding freshLen
+freshLen-none zero used q c s e = refl
+freshLen-none (suc k) used q c s e = freshLen-off k used q c s (no-name k used q c e)
 
 pub newLen-all : (used : List Bytes) (n : Bytes) (c : ℕ) (s : Bytes) → isNew used n ≡ true → isNameByte c ≡ false → newLen used (n ++ c ∷ s) ≡ length n
-newLen-all used n c s e d = freshLen-all n 32 used [] c s e (name-short n (new-name used n e)) d
+newLen-all used n c s e d = omega (arith, freshLen-past n 32 used [] (c ∷ s) e (name-short n (new-name used n e)), freshLen-none (32 - length n) used n c s d)
+
+-- so is one that stands there as far as a name does
+rest-over : (r : ℕ) (used : List Bytes) (q s : Bytes) → freshLen (r - nameRest r s) used q (drop (nameRest r s) s) ≡ 0
+unfolding freshLen nameRest
+rest-over zero used q s = refl
+rest-over (suc r) used q [] = let z : suc r - 0 ≡ suc r = omega arith in rw z refl
+rest-over (suc r) used q (b ∷ s) = at (isNameByte b) refl (rest-over r used q s)
+  where
+    at : (t : Bool) → isNameByte b ≡ t → freshLen (r - nameRest r s) used q (drop (nameRest r s) s) ≡ 0 → freshLen (suc r - nameRest (suc r) (b ∷ s)) used q (drop (nameRest (suc r) (b ∷ s)) (b ∷ s)) ≡ 0
+    at true e h =
+        let z : suc r - suc (nameRest r s) ≡ r - nameRest r s = omega arith in
+        rw (nameRest-cons r b s e, z) h
+    at false e h = rw (nameRest-off (suc r) b s e) (freshLen-none (suc r - 0) used q b s e)
+
+pub newLen-name : (used : List Bytes) (s : Bytes) → isNew used (take (nameLen s) s) ≡ true → newLen used s ≡ nameLen s
+unfolding nameLen isNew isName
+newLen-name used [] e = clash (sym e)
+newLen-name used (b ∷ s) e =
+    by-test (isStart b)
+    (λ h.
+    let n = nameLen-cons b s h in
+    let w = b ∷ take (nameRest 31 s) s in
+    let e′ : isNew used w ≡ true = rw n at e in
+    let l = length-take-le (nameRest 31 s) s (nameRest-fits 31 s) in
+    let z : 32 - suc (length (take (nameRest 31 s) s)) ≡ 31 - nameRest 31 s = omega arith in
+    omega (
+      arith,
+      n,
+      ap (λ (x : Bytes). newLen used (b ∷ x)) (take-append-drop (nameRest 31 s) s),
+      freshLen-past w 32 used [] (drop (nameRest 31 s) s) e′ (name-short w (new-name used w e′)),
+      ap (λ (k : ℕ). freshLen k used w (drop (nameRest 31 s) s)) z,
+      rest-over 31 used w s,
+    ))
+    (λ h. clash (sym (rw (nameLen-off b s h) at e)))
 
 -- what is counted can become a new name
 pub freshLen-grows : (k : ℕ) (used : List Bytes) (q s : Bytes) → fresh k used q ≡ true → Grows k used (q ++ take (freshLen k used q s) s)

@@ -60,6 +60,7 @@ pub mod SameTapes
 pub mod CompareLaws
 pub mod NameCells
 pub mod NameCellLaws
+pub mod AttrPlaces
 pub mod Alike
 pub mod Ends
 pub mod Matching

@@ -5,16 +5,16 @@ use native.Mathlib.Nat.{not-suc-le-zero, le-of-suc-le-suc}
 use native.Mathlib.Omega.{arith}
 use mathlib.Core.Path.{_≡_, refl, ap, sym, _∙_}
 use mathlib.Core.Bool.{Bool, true, false, _&&_, _||_}
-use mathlib.Core.List.{[], _∷_, _++_}
-use borrow.Author.Tests.{eqb-true, ne-eqb, leb-true, leb-false, le-leb, lt-leb}
+use mathlib.Core.List.{[], _∷_, _++_, append-nil}
+use borrow.Author.Tests.{ne-eqb, leb-true, leb-false, le-leb, lt-leb}
 use lib.Dec.{eqb, leb}
 use lib.ListN.{length, take, getD, length-append}
 use lib.Seq.{length-take-le}
-use Rattle.xml.specs.Bytes.{Bytes, bytes, all, isEmpty, isStart, isNameByte, isValue, isName, isTimes, isLetter, isDigit, among, within, classOf, Class, illegal, white, start, other, markup, plain, bytes-compute}
+use Rattle.xml.specs.Bytes.{Bytes, all, isEmpty, isStart, isNameByte, isValue, isName, isTimes, isLetter, isDigit, among, within, classOf, Class, illegal, white, start, other, markup, plain, bytes-compute}
 use Rattle.xml.specs.GrammarLaws.{classBy}
 use Rattle.xml.specs.Read.{nameRest, nameLen, timesLen}
 use Rattle.xml.specs.Truth.{by-test, clash, both-true, both, neither}
-use Rattle.xml.specs.ScanLaws.{nameRest-cons, nameRest-off, nameRest-fits, nameLen-cons, nameLen-off, timesLen-cons, timesLen-off}
+use Rattle.xml.specs.ScanLaws.{nameRest-cons, nameRest-off, nameRest-nil, nameRest-fits, nameLen-cons, nameLen-off, timesLen-cons, timesLen-off}
 
 -- ---- the same bytes
 -- ---- a name
@@ -53,20 +53,28 @@ parts-name b s p =
     let j : leb (suc (length s)) 32 ≡ true = le-leb (suc (length s)) 32 (omega arith) in
     both (p .first) (both (both i j) (both (start-name b (p .first)) (p .more)))
 
-nameRest-all : (n : Bytes) (r c : ℕ) (s : Bytes) → all isNameByte n ≡ true → length n ≤ r → isNameByte c ≡ false → nameRest r (n ++ c ∷ s) ≡ length n
+nameRest-past : (n : Bytes) (r : ℕ) (t : Bytes) → all isNameByte n ≡ true → length n ≤ r → nameRest r (n ++ t) ≡ length n + nameRest (r - length n) t
 unfolding all
-nameRest-all [] r c s a h e = nameRest-off r c s e
-nameRest-all (b ∷ n) zero c s a h e = absurd (not-suc-le-zero h)
-nameRest-all (b ∷ n) (suc r) c s a h e =
+nameRest-past [] r t a h = let z : r - 0 ≡ r = omega arith in rw z (omega arith)
+nameRest-past (b ∷ n) zero t a h = absurd (not-suc-le-zero h)
+nameRest-past (b ∷ n) (suc r) t a h =
     let i = both-true (isNameByte b) (all isNameByte n) a in
-    nameRest-cons r b (n ++ c ∷ s) (i .0) ∙ ap suc (nameRest-all n r c s (i .1) (le-of-suc-le-suc h) e)
+    let z : r - length n ≡ suc r - suc (length n) = omega arith in
+    omega (arith, nameRest-cons r b (n ++ t) (i .0), nameRest-past n r t (i .1) (le-of-suc-le-suc h), ap (λ (k : ℕ). nameRest k t) z)
+
+name-past : (n t : Bytes) → isName n ≡ true → nameLen (n ++ t) ≡ length n + nameRest (32 - length n) t
+unfolding isName
+name-past [] t a = clash (sym a)
+name-past (b ∷ n) t a =
+    let p = name-parts b n a in
+    let z : 31 - length n ≡ 32 - suc (length n) = omega arith in
+    omega (arith, nameLen-cons b (n ++ t) (p .first), nameRest-past n 31 t (p .more) (p .short), ap (λ (k : ℕ). nameRest k t) z)
 
 pub name-all : (n : Bytes) (c : ℕ) (s : Bytes) → isName n ≡ true → isNameByte c ≡ false → nameLen (n ++ c ∷ s) ≡ length n
-unfolding isName
-name-all [] c s a e = clash (sym a)
-name-all (b ∷ n) c s a e =
-    let p = name-parts b n a in
-    nameLen-cons b (n ++ c ∷ s) (p .first) ∙ ap suc (nameRest-all n 31 c s (p .more) (p .short) e)
+name-all n c s a e = omega (arith, name-past n (c ∷ s) a, nameRest-off (32 - length n) c s e)
+
+pub name-whole : (n : Bytes) → isName n ≡ true → nameLen n ≡ length n
+name-whole n a = omega (arith, ap nameLen (append-nil n), name-past n [] a, nameRest-nil (32 - length n))
 
 -- its first byte is of a name, and there is one
 pub name-first : (n s : Bytes) (c : ℕ) → isName n ≡ true → isStart c ≡ false → getD (n ++ s) 0 0 ≡ c → ⊥

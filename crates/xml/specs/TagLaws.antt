@@ -68,7 +68,7 @@ parts-space : (s : Bytes) → parts 0 (code " " ∷ s) ≡ attr (take (nameLenIn
 unfolding parts
 parts-space s = refl
 
-parts-one : (n s u : Bytes) (q : ℕ) → all isNameByte n ≡ true → all (inValue q) s ≡ true → parts 0 (code " " ∷ After n q s u) ≡ attr n s ∷ parts 0 u
+pub parts-one : (n s u : Bytes) (q : ℕ) → all isNameByte n ≡ true → all (inValue q) s ≡ true → parts 0 (code " " ∷ After n q s u) ≡ attr n s ∷ parts 0 u
 parts-one n s u q a h =
     let S = After n q s u in
     let m : nameLenIn S ≡ length n = until-all isNameByte (code "=") n (q ∷ (s ++ q ∷ u)) (name-no (code "=") equals-name) a in

@@ -4,15 +4,14 @@ use Prim.Native.Char.{code}
 use native.Mathlib.Omega.{arith}
 use mathlib.Core.Path.{_≡_, refl, ap, sym, _∙_, subst}
 use mathlib.Core.Bool.{Bool, true, false, not, _&&_, _||_}
-use mathlib.Core.List.{[], _∷_}
-use borrow.Author.Tests.{ne-eqb, le-leb, lt-leb}
+use borrow.Author.Tests.{ne-eqb, lt-leb, leb-true, leb-false}
 use lib.Dec.{eqb, leb}
 use lib.ListN.{length, drop, getD, length-drop, drop-of-length-le}
 use lib.Seq.{drop-drop}
-use Rattle.xml.specs.Bytes.{Bytes, among, within, isLetter, isDigit, isLegal, isCharacter, Class, illegal, white, start, other, markup, plain, bytes-compute}
+use Rattle.xml.specs.Bytes.{Bytes, among, within, isLetter, isDigit, isCharacter, illegal, white, start, other, markup, plain}
 use Rattle.xml.specs.Tags.{inValue, tags-compute}
-use Rattle.xml.specs.Read.{entityAt, valueByte, value}
-use Rattle.xml.specs.Truth.{by-test, clash, both, neither, or-second}
+use Rattle.xml.specs.Read.{valueByte, value}
+use Rattle.xml.specs.Truth.{by-test, clash, both, and-left, and-false, neither, or-second}
 use Rattle.xml.specs.GrammarLaws.{classBy, legal-character, lt-markup}
 use Rattle.xml.specs.TextLaws.{at-cons}
 use Rattle.xml.specs.Values.{ValueCase, over, hit, miss, plain as value-plain, off, value-case, valueTurn, value-cons, value-skip, found-fits}
@@ -48,14 +47,14 @@ not-and true b e = clash e
 not-and false b e = refl
 
 module _ (q b : ℕ) where
-  pub in-plain : 32 ≤ b → b ≤ 126 → (b ≡ code "<" → ⊥) → (b ≡ code "&" → ⊥) → (b ≡ q → ⊥) → isCharacter b && inValue q b ≡ true
+  pub in-plain : within 0x20 0x7E b ≡ true → (b ≡ code "<" → ⊥) → (b ≡ code "&" → ⊥) → (b ≡ q → ⊥) → isCharacter b && inValue q b ≡ true
   unfolding tags-compute
-  in-plain l h n m e =
-      let p : within 0x20 0x7E b ≡ true = both (le-leb 32 b l) (le-leb b 126 h) in
+  in-plain p n m e =
+      let l : 32 ≤ b = leb-true 32 b (and-left (leb 32 b) (leb b 126) p) in
       both (legal-character b n m (class-legal (among "\t\n\r " b) (isLetter b || eqb b 95) (isDigit b || among ".-" b) (among "<&" b) (within 0x20 0x7E b) p))
       (rw (ne-eqb b q e, ne-eqb b 9 (λ x. omega arith), ne-eqb b 10 (λ x. omega arith), ne-eqb b 13 (λ x. omega arith)))
 
-  pub in-high : 126 < b → isCharacter b && inValue q b ≡ false
+  in-high : 126 < b → isCharacter b && inValue q b ≡ false
   unfolding tags-compute
   in-high h =
       not-and (isCharacter b) (inValue q b)
@@ -65,7 +64,7 @@ module _ (q b : ℕ) where
       (neither (and-not (leb 48 b) (leb b 57) (lt-leb b 57 (omega arith))) (neither (ne-eqb b 46 (λ x. omega arith)) (neither (ne-eqb b 45 (λ x. omega arith)) refl)))
       (and-not (leb 32 b) (leb b 126) (lt-leb b 126 (omega arith))))
 
-  pub in-low : b < 32 → isCharacter b && inValue q b ≡ false
+  in-low : b < 32 → isCharacter b && inValue q b ≡ false
   unfolding tags-compute
   in-low h =
       by-test (among "\t\n\r" b)
@@ -86,6 +85,10 @@ module _ (q b : ℕ) where
           at false true z s e f = e
           at false false true s e f = e
           at false false false s e f = rw f
+
+  pub in-other : within 0x20 0x7E b ≡ false → isCharacter b && inValue q b ≡ false
+  unfolding within
+  in-other e = by-test (leb 32 b) (λ h. in-high (leb-false b 126 (and-false h e))) (λ h. in-low (leb-false 32 b h))
 
   pub in-less : b ≡ code "<" → isCharacter b && inValue q b ≡ false
   in-less e = not-and (isCharacter b) (inValue q b) (ap isCharacter e ∙ lt-markup)

@@ -1,4 +1,5 @@
 // The XML subset: what a reader's functions answer. The definitions are in specs/.
+pub mod attributes;
 pub mod class;
 pub mod compare;
 pub mod matching;
@@ -28,6 +29,13 @@ pub enum Next {
 pub enum Run {
     Upto(usize),
     Stop(usize),
+}
+
+// The attributes of a start tag: their length; the offset of the wrong byte in them; or no room for their names.
+pub enum Extent {
+    Upto(usize),
+    Stop(usize),
+    Full,
 }
 
 // A start tag: it opens an element, or is one without content, with a name so many bytes long; it opens an archive's `T`, with so many
