@@ -30,6 +30,12 @@ pub mod FreshNames
 pub mod Attrs
 pub mod NameOrder
 pub mod TagLaws
+pub mod TagParts
+pub mod TagPlaces
+pub mod NextPart
+pub mod TagWritten
+pub mod TagSums
+pub mod TagSame
 pub mod Goes
 pub mod Complete
 pub mod Opened

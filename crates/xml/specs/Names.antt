@@ -182,7 +182,7 @@ class-name false false false true p e f = refl
 class-name false false false false true e f = refl
 class-name false false false false false e f = refl
 
-and-not : (a b : Bool) → b ≡ false → a && b ≡ false
+pub and-not : (a b : Bool) → b ≡ false → a && b ≡ false
 and-not true b e = e
 and-not false b e = refl
 

@@ -29,17 +29,17 @@ use Rattle.xml.specs.Attrs.{After, more-text, more-long, attrs-all, attr
 use Rattle.xml.specs.declared.Run.the-variants.{Upto}
 
 -- ---- the parts of what stands in a tag
-until-all : (P : ℕ → Bool) (c : ℕ) (s t : Bytes) → ((b : ℕ) → P b ≡ true → eqb b c ≡ false) → all P s ≡ true → until c (s ++ c ∷ t) ≡ length s
+pub until-all : (P : ℕ → Bool) (c : ℕ) (s t : Bytes) → ((b : ℕ) → P b ≡ true → eqb b c ≡ false) → all P s ≡ true → until c (s ++ c ∷ t) ≡ length s
 unfolding until all
 until-all P c [] t h a = rw (eq-eqb c c refl, until)
 until-all P c (b ∷ s) t h a =
     let i = both-true (P b) (all P s) a in
     rw (h b (i .0), until) (ap suc (until-all P c s t h (i .1)))
 
-name-no : (c : ℕ) → isNameByte c ≡ false → (b : ℕ) → isNameByte b ≡ true → eqb b c ≡ false
+pub name-no : (c : ℕ) → isNameByte c ≡ false → (b : ℕ) → isNameByte b ≡ true → eqb b c ≡ false
 name-no c e b h = ne-eqb b c (λ x. clash (sym h ∙ ap isNameByte x ∙ e))
 
-value-no : (q b : ℕ) → inValue q b ≡ true → eqb b q ≡ false
+pub value-no : (q b : ℕ) → inValue q b ≡ true → eqb b q ≡ false
 unfolding inValue
 value-no q b e = not-so (eqb b q) (λ h. clash (sym e ∙ rw h))
 
@@ -49,7 +49,7 @@ parts-skip zero s h = refl
 parts-skip (suc k) [] h = refl
 parts-skip (suc k) (b ∷ s) h = parts-skip k s (le-of-suc-le-suc h)
 
-equals-name : isNameByte (code "=") ≡ false
+pub equals-name : isNameByte (code "=") ≡ false
 unfolding bytes-compute
 equals-name = refl
 
@@ -57,7 +57,7 @@ space-name : isNameByte (code " ") ≡ false
 unfolding bytes-compute
 space-name = refl
 
-parts-name : (n u : Bytes) → all isNameByte n ≡ true → parts 0 (n ++ u) ≡ parts 0 u
+pub parts-name : (n u : Bytes) → all isNameByte n ≡ true → parts 0 (n ++ u) ≡ parts 0 u
 unfolding parts all
 parts-name [] u a = refl
 parts-name (b ∷ n) u a =
@@ -187,7 +187,7 @@ by-length : {n : ℕ} (t : Bool) (x y : Bytes) → length x ≤ n → length y �
 by-length true x y h g = h
 by-length false x y h g = g
 
-value-length : (v : Bytes) → length (escapeValue v) ≤ 6 * length v
+pub value-length : (v : Bytes) → length (escapeValue v) ≤ 6 * length v
 unfolding bytes escapeValue
 value-length [] = omega arith
 value-length (b ∷ v) =
@@ -196,7 +196,7 @@ value-length (b ∷ v) =
     (by-length (eqb b (code "<")) _ _ (simp length-append (omega arith))
     (by-length (eqb b (code "\"")) _ _ (simp length-append (omega arith)) (omega arith)))
 
-text-long : (n v : Bytes) (l : List Attr) → length (attrText (attr n v ∷ l)) ≡ 4 + length n + length (escapeValue v) + length (attrText l)
+pub text-long : (n v : Bytes) (l : List Attr) → length (attrText (attr n v ∷ l)) ≡ 4 + length n + length (escapeValue v) + length (attrText l)
 unfolding attrText bytes
 text-long n v l = simp length-append (omega arith)
 
@@ -210,7 +210,7 @@ insert-long (attr n v) (attr m w ∷ l) = at (less (attrName (attr m w)) (attrNa
     at true h = omega (arith, text-long m w (insert (attr n v) l), text-long n v l, text-long n v (attr m w ∷ l), text-long m w l)
     at false h = refl
 
-sort-long : (l : List Attr) → length (attrText (sort l)) ≡ length (attrText l)
+pub sort-long : (l : List Attr) → length (attrText (sort l)) ≡ length (attrText l)
 unfolding sort
 sort-long [] = refl
 sort-long (attr n v ∷ l) = omega (arith, insert-long (attr n v) (sort l), text-long n v (sort l), text-long n v l, sort-long l)
@@ -377,7 +377,7 @@ quote-quote : isQuote (code "\"") ≡ true
 unfolding tags-compute
 quote-quote = refl
 
-fine-attributes : (used : List Bytes) (l : List Attr) → Fine used l → Attributes used (attrText l) l
+pub fine-attributes : (used : List Bytes) (l : List Attr) → Fine used l → Attributes used (attrText l) l
 unfolding attrText bytes
 fine-attributes used [] f = none
 fine-attributes used (attr n v ∷ l) f =
@@ -419,12 +419,12 @@ characters-meant q (kept {b = b} {s = s} e r c) a =
     both (in-meant q b e (i .0)) (characters-meant q c (i .1))
 characters-meant q (entity {e = e} {s = s} i c) a = both (entity-meant i) (characters-meant q c (all-right (inValue q) e s a))
 
-attributes-fine : {used : List Bytes} {u : Bytes} {l : List Attr} → Attributes used u l → Fine used l
+pub attributes-fine : {used : List Bytes} {u : Bytes} {l : List Attr} → Attributes used u l → Fine used l
 attributes-fine none = tt
 attributes-fine (more q new quote c within r) = (new, characters-meant q c within, attributes-fine r)
 
 -- ---- their order
-abbrev Below : Attr → List Attr → Type 0
+abbrev pub Below : Attr → List Attr → Type 0
 Below x [] = Unit {0}
 Below x (y ∷ l) = less (attrName y) (attrName x) ≡ false
 
@@ -432,16 +432,16 @@ abbrev Ascending : List Attr → Type 0
 Ascending [] = Unit {0}
 Ascending (x ∷ l) = Below x l × Ascending l
 
-insert-first : (x : Attr) (l : List Attr) → Below x l → insert x l ≡ x ∷ l
+pub insert-first : (x : Attr) (l : List Attr) → Below x l → insert x l ≡ x ∷ l
 unfolding insert
 insert-first x [] h = refl
 insert-first x (y ∷ l) h = rw (h, insert)
 
-insert-later : (x y : Attr) (l : List Attr) → less (attrName y) (attrName x) ≡ true → insert x (y ∷ l) ≡ y ∷ insert x l
+pub insert-later : (x y : Attr) (l : List Attr) → less (attrName y) (attrName x) ≡ true → insert x (y ∷ l) ≡ y ∷ insert x l
 unfolding insert
 insert-later x y l h = rw (h, insert)
 
-below-insert : (y x : Attr) (l : List Attr) → Below y l → less (attrName x) (attrName y) ≡ false → Below y (insert x l)
+pub below-insert : (y x : Attr) (l : List Attr) → Below y l → less (attrName x) (attrName y) ≡ false → Below y (insert x l)
 unfolding insert
 below-insert y x [] h e = e
 below-insert y x (z ∷ l) h e =
@@ -476,7 +476,7 @@ fine-same used used′ [] h f = tt
 fine-same used used′ (attr n v ∷ l) h f =
     (unused-new used′ n (new-name used n (f .0)) (sym (h n) ∙ new-unused used n (f .0)), f .1, fine-same (n ∷ used) (n ∷ used′) l (λ m. ap (λ (x : Bool). same m n || x) (h m)) (f .2))
 
-same-not : (n m : Bytes) → same n m ≡ false → same m n ≡ false
+pub same-not : (n m : Bytes) → same n m ≡ false → same m n ≡ false
 same-not n m e = not-so (same m n) (λ h. clash (sym (ap (same n) (same-is m n h) ∙ same-self n) ∙ e))
 
 insert-fine : (used : List Bytes) (x : Attr) (l : List Attr) → Fine used (x ∷ l) → Fine used (insert x l)
@@ -494,7 +494,7 @@ insert-fine used (attr n v) (attr m w ∷ l) f = at (less m n) refl (λ g. inser
         in
         rw (insert-later (attr n v) (attr m w) l i) (unused-new used m (new-name (n ∷ used) m (f .2 .0)) (y .1), f .2 .1, ih k)
 
-sort-fine : (used : List Bytes) (l : List Attr) → Fine used l → Fine used (sort l)
+pub sort-fine : (used : List Bytes) (l : List Attr) → Fine used l → Fine used (sort l)
 unfolding sort
 sort-fine used [] f = tt
 sort-fine used (attr n v ∷ l) f = insert-fine used (attr n v) (sort l) (f .0, f .1, sort-fine (n ∷ used) l (f .2))

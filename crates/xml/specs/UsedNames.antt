@@ -62,7 +62,7 @@ module _ {s : Bytes} {c at : ℕ} where
   unfolding until
   going-over {n} x h = omega (arith, x .is, ap (until c) (drop-of-length-le s h))
 
-until-fits : (c : ℕ) (s : Bytes) → until c s ≤ length s
+pub until-fits : (c : ℕ) (s : Bytes) → until c s ≤ length s
 unfolding until
 until-fits c [] = omega arith
 until-fits c (b ∷ s) = by-test (eqb b c) (λ e. rw (until-at c b s (eqb-true b c e)) (omega arith)) (λ e. rw (until-past c b s (eqb-false b c e)) (omega (arith, until-fits c s)))

@@ -8,6 +8,7 @@ pub mod panel;
 pub mod reader;
 pub mod scan;
 pub mod spelling;
+pub mod tag;
 pub mod tape;
 pub mod text;
 pub mod writer;

@@ -13,7 +13,7 @@ ghost use Rattle.xml.specs.SameTapes.{Parts};
 ghost use Rattle.xml.specs.NameCells.{nameIn, InText, NameCells, SomeNames, Parted, Shifted, Below};
 
 // The name src1[a1..e1] comes before src2[a2..e2]: as byte strings, a prefix first.
-fn precedes(src1: &[u8], a1: usize, e1: usize, src2: &[u8], a2: usize, e2: usize) -> bool
+pub(crate) fn precedes(src1: &[u8], a1: usize, e1: usize, src2: &[u8], a2: usize, e2: usize) -> bool
     requires { ⌜ Parts (now src1) a1 e1 (now src2) a2 e2 ⌝ }
     ensures { λ r. ⌜ r ≡ less (slice a1 e1 (now (src1 .entry))) (slice a2 e2 (now (src2 .entry))) ⌝ }
 {
