@@ -233,6 +233,6 @@ module _ {s : Bytes} where
   writing-next {i = i} {r = r} {g = g} x h e n w =
       left-more (attrText (means (attrIn s i g) ∷ [])) (rw (ap (λ (l : List Attr). attrText (map means l)) (sorted-next h e n) ∙ text-first (means (attrIn s i g)) (map means (sortedFrom s r))) at x) w
 
-  pub writing-room : {rest out left : List ℕ} {at to : ℕ} → IsTag s → length s ≤ 32768 → Left (attrText (map means (sort (parts 0 s)))) rest out at to left → at < 2 ^ 61 + 32768 → to < 2 ^ 61 + 2 ^ 59
+  pub writing-room : {rest out left : List ℕ} {at to : ℕ} → IsTag s → length s ≤ 32768 → Left (attrText (map means (sort (parts 0 s)))) rest out at to left → at < 2 ^ 61 + 2 ^ 58 + 32768 → to < 2 ^ 61 + 2 ^ 59
   writing-room t h x l =
       omega (arith, left-place x, start-long (t .start) .0, ap length (start-means (t .start)), ap length (tag-text s), length-append (nameOf s) (attrText (map means (sort (parts 0 s)))))

@@ -253,7 +253,7 @@ fn put_attr(s: &[u8], i: usize, p: Part, out: &mut [u8], at: usize) -> usize
 
 // Writes the tag that raw bytes mean: the name, and the attributes by ascending names.
 pub fn put_tag(s: &[u8], out: &mut [u8], at: usize) -> usize
-    requires { ⌜ IsTag (now s) × (length (now s) ≤ 32768) × (at < 2 ^ 61) ⌝ }
+    requires { ⌜ IsTag (now s) × (length (now s) ≤ 32768) × (at < 2 ^ 61 + 2 ^ 58) ⌝ }
     ensures { λ r. ⌜ Wrote (now (out .entry)) at (tagOf (now (s .entry))) r (now (out .exit)) ⌝ }
 {
     if is_bare(s) {

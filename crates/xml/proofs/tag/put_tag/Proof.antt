@@ -27,7 +27,7 @@ here : (c : tie.After-part-at Inv-loop μ-loop) → PartIn (c .before .before .b
 here c = subst (λ g. PartIn (c .before .before .before .before .before .before .before .before .before .before .before .before .before .args .s .now) (c .before .before .loop .i) g) (sym (c .part-at .ensures)) (part-in (c .before .before .loop .inv .0) (c .before .loop-test .taken))
 
 -- where the name ends
-named : (c : tie.After-put-part2 Inv-loop μ-loop) → c .put-part2 .result < 2 ^ 61 + 32768
+named : (c : tie.After-put-part2 Inv-loop μ-loop) → c .put-part2 .result < 2 ^ 61 + 2 ^ 58 + 32768
 named c =
     let a = c .before .before .before .before .before .before .before .args in
     let k = tag-start (c .before .before .before .before .before .before .before .pre .0) .inside in
