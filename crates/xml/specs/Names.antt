@@ -197,16 +197,3 @@ name-small b e =
     (neither (neither (and-not (leb 65 b) (leb b 90) (lt-leb b 90 (omega arith))) (and-not (leb 97 b) (leb b 122) (lt-leb b 122 (omega arith)))) (ne-eqb b 95 (λ x. omega arith)))
     (neither (and-not (leb 48 b) (leb b 57) (lt-leb b 57 (omega arith))) (neither (ne-eqb b 46 (λ x. omega arith)) (neither (ne-eqb b 45 (λ x. omega arith)) refl)))))
     (λ h. leb-false 128 b h)
-
-all-more : (f : ℕ → Bool) (s : Bytes) (c : ℕ) → all f s ≡ true → f c ≡ true → all f (s ++ c ∷ []) ≡ true
-unfolding all
-all-more f [] c a e = both e refl
-all-more f (b ∷ s) c a e = let i = both-true (f b) (all f s) a in both (i .0) (all-more f s c (i .1) e)
-
--- a byte more
-pub name-more : (q : Bytes) (c : ℕ) → isName q ≡ true → isNameByte c ≡ true → length q < 32 → isName (q ++ c ∷ []) ≡ true
-unfolding isName
-name-more [] c a e h = clash (sym a)
-name-more (b ∷ q) c a e h =
-    let p = name-parts b q a in
-    parts-name b (q ++ c ∷ []) (record { first = p .first; more = all-more isNameByte q c (p .more) e; short = omega (arith, length-append q (c ∷ [])) })

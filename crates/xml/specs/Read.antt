@@ -7,7 +7,7 @@ use mathlib.Core.Bool.{Bool, true, false, _&&_, _||_}
 use mathlib.Core.List.{List, [], _∷_, _++_, map}
 use lib.Dec.{eqb, leb}
 use lib.ListN.{length, take, drop, getD}
-use Rattle.xml.specs.Bytes.{Bytes, bytes, same, isWhite, isLegal, isCharacter, isStart, isNameByte, isTimes, bytes-compute}
+use Rattle.xml.specs.Bytes.{Bytes, bytes, same, isWhite, isLegal, isCharacter, isStart, isNameByte, isTimes}
 use Rattle.xml.specs.Tags.{Attr, attr, nameOf, parts, tagText, isQuote, inValue, isNew, fresh, newLen, tags-compute}
 use Rattle.xml.specs.Forest.{Forest, end, elem, text, stamp, join, write, forest-compute}
 use Rattle.xml.specs.declared.Found.{Found}

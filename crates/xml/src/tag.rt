@@ -19,7 +19,7 @@ ghost use Rattle.xml.specs.SameTapes.{Parts};
 ghost use Rattle.xml.specs.TagParts.{IsTag, partAt, attrIn, quoted, nearerOf, alike};
 ghost use Rattle.xml.specs.TagPlaces.{PartIn};
 ghost use Rattle.xml.specs.NextPart.{NextPart};
-ghost use Rattle.xml.specs.Tags.{escapeValue, attrText, less, sort, nameOf, until, parts, countBut, tagNodes, namedT};
+ghost use Rattle.xml.specs.Tags.{escapeValue, attrText, sort, nameOf, until, parts, countBut, tagNodes, namedT};
 
 // An attribute of a tag, whose space stands at a place i: its name ends before the `=`, and its value before the quote at `end`.
 pub struct Part {
