@@ -34,11 +34,9 @@ enum archive_number {
     ARCHIVE_LENGTH = 2,       /* key list over 4,096 bytes, version over 16,384, archive over 32,768, or address over 2,560 */
     ARCHIVE_NOTATION = 3,     /* key list not in the notation */
     ARCHIVE_RULES = 4,        /* key list breaks a rule */
-    ARCHIVE_XML = 5,          /* version not in the XML subset: also one with two attributes of one name on an element */
-    ARCHIVE_LARGE = 6,        /* version deeper than 16, over 512 nodes, or its written form over 16,384 bytes; a ninth
-                               * attribute on an element */
-    ARCHIVE_PATH = 7,         /* a path not in the list above or at a frontier, refused text, or the name T anywhere; an
-                               * attribute at or above a frontier */
+    ARCHIVE_XML = 5,          /* version not in the XML subset */
+    ARCHIVE_LARGE = 6,        /* version deeper than 16, over 512 nodes, or its written form over 16,384 bytes */
+    ARCHIVE_PATH = 7,         /* a path not in the list above or at a frontier, refused text, or the name T anywhere */
     ARCHIVE_KEY = 8,          /* a key child missing, repeated or illegal */
     ARCHIVE_SIBLINGS = 9,     /* two siblings with one name and key */
     ARCHIVE_ILLEGAL = 10,     /* archive not legal */
@@ -70,11 +68,7 @@ enum archive_length {
  * "" and 0: NULL and 0 is promised nothing.
  * In a version CR LF, and a CR with no LF after it, are read as one LF, before all but the length test: the 16,384 bytes
  * of ARCHIVE_LENGTH are counted as lent, all else is of the text with LF. No result has a CR; an archive that has one is
- * not legal. In a key list, an address and a mark's name CR is illegal.
- * Elements strictly beneath a frontier may have attributes, up to eight, as <reading unit="h">: one space before each, in
- * either quote, with no two names equal. They are a set: versions that differ in their order, quotes or entities are one
- * content. Results have them by ascending names, in double quotes, with &amp;, &lt; and &quot; where these are meant. Each
- * is a node. An archive has them so, or is not legal. */
+ * not legal. In a key list, an address and a mark's name CR is illegal. */
 
 /* Checks a key list. It has no output: *length is 0. Returns 0 or 2 to 4. */
 uint32_t archive_check_keys(const uint8_t *keys, size_t keys_len, size_t *length);

@@ -22,13 +22,12 @@ static uint32_t hand_back(const uint8_t *archive, size_t archive_len, uint32_t n
 }
 
 /* 1: an add that hands back its archive. 10: one that does so of an empty version, as if none were added. 13: one that does so of a
- * version with a CR. 15: one that takes nine attributes. */
+ * version with a CR. */
 uint32_t __real_archive_add(LENT, const uint8_t *version, size_t version_len, RESULT);
 uint32_t __wrap_archive_add(LENT, const uint8_t *version, size_t version_len, RESULT) {
     uint32_t number = __real_archive_add(LENT_ON, version, version_len, RESULT_ON);
     int absent = FAULT == 10 && version_len == 0;
     int returned = FAULT == 13 && memchr(version, '\r', version_len) != NULL;
-    if (FAULT == 15 && number == ARCHIVE_LARGE) return ARCHIVE_DONE;
     return FAULT == 1 || absent || returned ? hand_back(archive, archive_len, number, out, length) : number;
 }
 

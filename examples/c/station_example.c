@@ -1,4 +1,4 @@
-/* Document 01's record of one station, through the C entries, document 02's marks, vacant versions, line ends and attributes on it, and
+/* Document 01's record of one station, through the C entries, document 02's marks, vacant versions and line ends on it, and
  * its longest history line: each step says what it does and what came back. Exit status 1 if a number, a length, a version, a result, the rest of an
  * output or the table of marks is not what the papers say. */
 #include "station_archive.h"
@@ -212,18 +212,6 @@ static void tablets(void) {
     retrieve("retrieve from an archive that holds CR", 1, ARCHIVE_ILLEGAL, "");
 }
 
-/* A note with units on an element in it: their order, quotes and entities make no new content. */
-static void units(void) {
-    found("found from a note with units", "<station><light>Fl <per unit='s' at=\"&lt;6\"/></light></station>", ARCHIVE_DONE,
-          "<T t=\"1\"><station><light>Fl <per at=\"&lt;6\" unit=\"s\"></per></light></station></T>");
-    add("add it in other words", "<station><light>Fl <per at='&lt;6' unit=\"s\"></per></light></station>", ARCHIVE_DONE,
-        "<T t=\"1-2\"><station><light>Fl <per at=\"&lt;6\" unit=\"s\"></per></light></station></T>");
-    retrieve("retrieve 1, saved in other words", 1, ARCHIVE_DONE, "<station><light>Fl <per at=\"&lt;6\" unit=\"s\"></per></light></station>");
-    add("add one with a unit twice", "<station><light><per unit='s' unit='m'/></light></station>", ARCHIVE_XML, "");
-    add("add one with nine units", "<station><light><per a='' b='' c='' d='' e='' f='' g='' h='' i=''/></light></station>", ARCHIVE_LARGE, "");
-    add("add one with a unit on a frontier", "<station><light unit='s'/></station>", ARCHIVE_PATH, "");
-}
-
 /* The text that is given as the longest over versions 1 to n: runs of two from n downwards, with gaps of one. */
 static const char *longest_line(size_t n) {
     static char line[ARCHIVE_LENGTH_HISTORY + 1];
@@ -282,7 +270,6 @@ int main(void) {
     named_versions();
     out_of_commission();
     tablets();
-    units();
     longest_lines();
     printf("%d steps, %d not as the papers say\n", steps, wrong);
     return wrong != 0;

@@ -1,21 +1,23 @@
 -- Adding a version, on the way: of the archive's siblings those from node p are left, and of the version's those from node q.
-use Rattle.std.specs.Prelude.{ℕ, ◌+◌, ◌*◌, ◌-◌, ◌<◌, ◌≤◌, ◌≡◌, refl, true, false, List, length}
-use Rattle.std.proofs.Common.{arith, sym, ◌∙◌, subst, length-append}
+use Rattle.std.specs.Prelude.{ℕ, ◌+◌, ◌*◌, ◌-◌, ◌<◌, ◌≤◌, ◌≡◌, refl, false, not, ◌&&◌, List, length}
+use Rattle.std.proofs.Common.{arith, ◌∙◌, length-append}
 use Rattle.std.proofs.Math.Decide.{dec_lt}
-use Rattle.std.proofs.Math.Path.{ap}
+use Rattle.std.proofs.Math.Path.{sym, ap, subst}
+use Rattle.std.proofs.Math.Bool.{true}
 use Rattle.std.proofs.Math.Option.{Option, none, some}
 use mathlib.Core.Ordering.{Ordering, lt, eq, gt}
-use Rattle.xml.specs.Bytes.{Bytes, bytes}
+use Rattle.xml.specs.Bytes.{Bytes, bytes, same}
 use Rattle.xml.specs.Forest.{Forest, end, elem, write, nodes, join}
 use Rattle.xml.specs.Over.{Wrote}
 use Rattle.xml.specs.OverLaws.{wrote_none}
-use Rattle.xml.specs.Tape.{next_at, Tagged, Tape}
-use Rattle.xml.specs.TapeLaws.{opening, closing, node-bytes, tape-le, tape-none}
-use Rattle.xml.specs.TagLaws.{start-long}
+use Rattle.xml.specs.Tape.{next_at, Node, Tape}
+use Rattle.xml.specs.TapeLaws.{opening, closing, node-bytes, tape-le, tape-none, tape-size}
 use Rattle.xml.specs.Complete.{join-assoc}
+use Rattle.xml.specs.Truth.{and_left, and_right}
 use Rattle.model.specs.Orders.{labels}
 use Rattle.keys.specs.KeyList.{Path, KeyList, above}
 use Rattle.keys.specs.Version.{◌▸◌, Label, label}
+use Rattle.keys.specs.Legal.{untimed}
 use Rattle.keys.specs.Ranks.{rank}
 use Rattle.keys.specs.Table.{place_of, Table}
 use Rattle.timestamp.specs.Times.{Times}
@@ -24,7 +26,7 @@ use Rattle.versions.specs.Sizes.{nodes-join}
 use Rattle.versions.specs.AddParts.{Says, sibling, set_in, old_part, both_part, opened, closed, inside, order_of, SiblingsIn, VersionIn, place_in, At}
 use Rattle.adding.specs.Growth.{Grew}
 use Rattle.versions.specs.AddTurns.{First, first-sibling, Next, next-element, turn-old, turn-both, turn-new, alike, nodes-new}
-use Rattle.versions.specs.AddFront.{wrote-join}
+use Rattle.versions.specs.AddFront.{wrote-join, plain-count}
 use Rattle.versions.specs.AddWalk.{Held, Both, both-wrote, both-nodes, old-nodes, order-none, order-some}
 use Rattle.adding.specs.declared.content.Added.{Added}
 
@@ -47,10 +49,6 @@ pub way-none : {src cells : List ℕ} {lo hi : ℕ} {vsrc vcells : List ℕ} {vl
 unfolding join write nodes
 way-none {f = f} {v = v} h g s x =
     record { rest = f; other = v; tape = h; vtape = g; siblings = s; version = x; made = end; all = refl; count = omega arith; wrote = wrote_none }
-
--- so many nodes are those from q to hi
-abbrev pub Counted : List ℕ → List ℕ → ℕ → ℕ → ℕ → Type 0
-Counted src cells q hi c = (f : Forest) → Tape src cells q hi f → c ≡ nodes f
 
 -- neither before nor after is the same
 pub order_same : (l : Label) (o : Option Label) → (order_of l o ≡ 2 → ⊥) → (order_of l o ≡ 0 → ⊥) → order_of l o ≡ 1
@@ -126,12 +124,12 @@ module _ {src cells : List ℕ} {p hi : ℕ} {vsrc vcells : List ℕ} {q vhi n :
         wrote = wrote-join x.made g x.wrote y;
       }
 
-  pub way-new : {r c : ℕ} {left : List ℕ} (l : p < hi) → order_at l ≡ 2 → Counted vsrc vcells q (next_at vcells q) c → ((f : Forest) → Tape vsrc vcells q (next_at vcells q) f → Wrote mid to (write (newest n f end)) r left)
-      → Way src cells p hi vsrc vcells (next_at vcells q) vhi n K w t whole first out at r left (fresh + c)
+  pub way-new : {r : ℕ} {left : List ℕ} (l : p < hi) → order_at l ≡ 2 → ((f : Forest) → Tape vsrc vcells q (next_at vcells q) f → Wrote mid to (write (newest n f end)) r left)
+      → Way src cells p hi vsrc vcells (next_at vcells q) vhi n K w t whole first out at r left (fresh + (next_at vcells q - q))
   unfolding newest nodes
-  way-new l e z y =
+  way-new l e y =
       let s = next_of l in
-      let u = other_of (there l (λ d. omega (arith, d, e))) in
+      let u = other_of (there l (λ z. omega (arith, z, e))) in
       let g : Forest = elem u.name u.kids end in
       let h : Forest = join (sibling s.own s.name s.kids) s.rest in
       record {
@@ -145,7 +143,7 @@ module _ {src cells : List ℕ} {p hi : ℕ} {vsrc vcells : List ℕ} {q vhi n :
         all = further l (elem u.name u.kids u.rest) (newest n g end) (add_in K n w t x.rest u.rest) u.is
             (turn-new K n w t s.own s.name s.kids s.rest u.name u.kids u.rest (sym (order-some (label K w s.name s.kids) u) ∙ e)
             ∙ ap (λ f. join (newest n g end) (add_in K n w t f u.rest)) (sym s.is));
-        count = rw (nodes-join x.made (newest n g end)) (omega (arith, x.count, z g u.here));
+        count = rw (nodes-join x.made (newest n g end)) (omega (arith, x.count, plain-count u.here u.plain));
         wrote = wrote-join x.made (newest n g end) x.wrote (y g u.here);
       }
 
@@ -153,6 +151,7 @@ module _ {src cells : List ℕ} {p hi : ℕ} {vsrc vcells : List ℕ} {q vhi n :
   pub both_of : {text : Bytes} {table : List ℕ} {n-paths place a e : ℕ} (l : p < hi) (u : q < vhi) → order_at l ≡ 1 → Table text table n-paths K
       → ((o : Option Bytes) (m : Bytes) (k : Forest) → At src cells p o m k → place ≡ place_of K (w ▸ m)) → Says n src a e t
       → Both text table n-paths place src cells p vsrc vcells q n a e K w t (next_of l).own (next_of l).name (next_of l).kids (other_of u).kids
+  unfolding untimed
   both_of l u e a b c =
       let s = next_of l in
       let o = other_of u in
@@ -164,9 +163,10 @@ module _ {src cells : List ℕ} {p hi : ℕ} {vsrc vcells : List ℕ} {q vhi n :
         own-set = s.set;
         siblings = s.siblings;
         front = s.front;
-        vnode = subst (λ m. Tagged vsrc vcells q m) z o.node;
+        vnode = subst (λ m. Node vsrc vcells q 1 m) z o.node;
         vinner = o.inner;
         version = subst (λ m. above K (w ▸ m) ≡ true → VersionIn K (w ▸ m) o.kids) z o.version;
+        plain = and_right (not (same o.name (bytes "T"))) (untimed o.kids) (and_left (not (same o.name (bytes "T")) && untimed o.kids) true o.plain);
         set = c;
       }
 
@@ -192,14 +192,14 @@ module _ {src cells : List ℕ} {p hi : ℕ} {vsrc vcells : List ℕ} {q vhi n :
         wrote = wrote-join x.made g x.wrote y.wrote;
       }
 
-  pub way-done : {r c : ℕ} {left : List ℕ} → hi ≤ p → Counted vsrc vcells q vhi c → Wrote mid to (write (add_new K n w x.other)) r left → Wrote out at (write whole) r left × (nodes whole ≡ nodes first + (fresh + c))
+  pub way-done : {r : ℕ} {left : List ℕ} → hi ≤ p → Wrote mid to (write (add_new K n w x.other)) r left → Wrote out at (write whole) r left × (nodes whole ≡ nodes first + (fresh + (vhi - q)))
   unfolding add_in nodes
-  way-done l b y =
+  way-done l y =
       let z : hi ≡ p = omega (arith, tape-le x.tape) in
       let d : x.rest ≡ end = tape-none (rw z at x.tape) in
       let e : whole ≡ join x.made (add_new K n w x.other) = x.all ∙ ap (λ f. join x.made (add_in K n w t f x.other)) d in (
         rw e (wrote-join x.made (add_new K n w x.other) x.wrote y),
-        ap nodes e ∙ nodes-join x.made (add_new K n w x.other) ∙ omega (arith, x.count, ap nodes d, nodes-new n x.version, b x.other x.vtape),
+        ap nodes e ∙ nodes-join x.made (add_new K n w x.other) ∙ omega (arith, x.count, ap nodes d, nodes-new n x.version, tape-size x.vtape),
       )
 
 -- a sibling that both have, piece by piece
@@ -223,19 +223,19 @@ pub inner-held : {text : Bytes} {table : List ℕ} {n-paths place : ℕ} {src ce
     {o : Option Bytes} {m : Bytes} {k g : Forest} → Both text table n-paths place src cells p vsrc vcells q n a e K w t o m k g → Says n src b d (set_in n t o)
     → Held text table n-paths place src cells (place_in o p + 1) (next_at cells (place_in o p)) vsrc vcells (q + 1) (next_at vcells q) n b d K (w ▸ m) (set_in n t o) k g
 inner-held b s =
-    record { tabled = b.tabled; place_is = b.place_is; tape = b.at.inner; vtape = b.vinner; siblings = b.siblings; front = b.front; version = b.version; set = s }
+    record { tabled = b.tabled; place_is = b.place_is; tape = b.at.inner; vtape = b.vinner; siblings = b.siblings; front = b.front; version = b.version; plain = b.plain; set = s }
 
 -- an element's tags are short
-pub opening-short : {src cells : List ℕ} {p : ℕ} {m : Bytes} → Tagged src cells p m → length (opening true m) ≤ 196604
+pub opening-short : {src cells : List ℕ} {p kind : ℕ} {m : Bytes} → Node src cells p kind m → length (opening true m) ≤ 32769
 unfolding opening bytes
-opening-short n = simp length-append (omega (arith, node-bytes n.node, start-long n.start))
+opening-short n = simp length-append (omega (arith, node-bytes n))
 
-pub closing-short : {src cells : List ℕ} {p : ℕ} {m : Bytes} → Tagged src cells p m → length (closing true m) ≤ 35
+pub closing-short : {src cells : List ℕ} {p kind : ℕ} {m : Bytes} → Node src cells p kind m → length (closing true m) ≤ 32770
 unfolding closing bytes
-closing-short n = simp length-append (omega (arith, start-long n.start))
+closing-short n = simp length-append (omega (arith, node-bytes n))
 
 -- the bytes that are left inside an element, of those for its sibling
-pub room-inner : (at q : ℕ) {j most p e end' next vnext : ℕ} → p ≤ e → e < next → end' ≡ next → q + 1 ≤ vnext → j ≤ at + 199612 → at + 262144 * (next - p + (vnext - q)) < most
+pub room-inner : (at q : ℕ) {j most p e end' next vnext : ℕ} → p ≤ e → e < next → end' ≡ next → q + 1 ≤ vnext → j ≤ at + 35777 → at + 262144 * (next - p + (vnext - q)) < most
     → j + (262144 * (end' - (e + 1) + (vnext - (q + 1))) + 32768) < most
 room-inner at q {j} {most} {p} {e} {end'} {next} {vnext} a b c d g h =
     go (end' - (e + 1)) (vnext - (q + 1)) (next - p) (vnext - q) (omega (arith, a, b, c)) (omega (arith, d)) h
@@ -243,10 +243,10 @@ room-inner at q {j} {most} {p} {e} {end'} {next} {vnext} a b c d g h =
     go : (x y u v : ℕ) → x + 1 ≤ u → y + 1 ≤ v → at + 262144 * (u + v) < most → j + (262144 * (x + y) + 32768) < most
     go x y u v f k h = omega (arith, g)
 
-pub room-outer : (at q : ℕ) {j x p e end' next vnext : ℕ} → p ≤ e → e < next → end' ≡ next → q + 1 ≤ vnext → j ≤ at + 199612 → x ≤ j + (262144 * (end' - (e + 1) + (vnext - (q + 1))) + 32768)
-    → x + 290000 ≤ at + 262144 * (next - p + (vnext - q))
+pub room-outer : (at q : ℕ) {j x p e end' next vnext : ℕ} → p ≤ e → e < next → end' ≡ next → q + 1 ≤ vnext → j ≤ at + 35777 → x ≤ j + (262144 * (end' - (e + 1) + (vnext - (q + 1))) + 32768)
+    → x + 400000 ≤ at + 262144 * (next - p + (vnext - q))
 room-outer at q {j} {x} {p} {e} {end'} {next} {vnext} a b c d g h =
     go (end' - (e + 1)) (vnext - (q + 1)) (next - p) (vnext - q) (omega (arith, a, b, c)) (omega (arith, d)) h
   where
-    go : (y z u v : ℕ) → y + 1 ≤ u → z + 1 ≤ v → x ≤ j + (262144 * (y + z) + 32768) → x + 290000 ≤ at + 262144 * (u + v)
+    go : (y z u v : ℕ) → y + 1 ≤ u → z + 1 ≤ v → x ≤ j + (262144 * (y + z) + 32768) → x + 400000 ≤ at + 262144 * (u + v)
     go y z u v f k h = omega (arith, g)

@@ -116,7 +116,8 @@ module _ {text : Bytes} {table : List ℕ} {n-paths : ℕ} {src cells : List ℕ
         vtape = x.vtape;
         siblings = λ _. o.siblings;
         front = λ b. clash (sym top ∙ b);
-        version = λ _. g;
+        version = λ _. g.0;
+        plain = g.1;
         set = o.says;
       }
 

@@ -17,7 +17,6 @@ use crate::content::{Added, write_contents};
 use crate::sibling::{close_set, open_set, order_of, own_place, set_of, write_new, write_old};
 use keys::places::{Part, is_above};
 use timestamp::Timestamp;
-use walks::count::count_nodes;
 use walks::history::element_at;
 use walks::timed::{put_newest, put_times};
 use xml::tape::view_at;
@@ -44,7 +43,7 @@ fn write_both(
         × (next_at tape.now p ≤ 2 ^ 32) × (next_at vtape.now q ≤ 2 ^ 32) × (262144 * (next_at tape.now p - p + (next_at vtape.now q - q)) < 2 ^ 58) }
     ensures { (K : KeyList) (w : Path) (t : Times) (o : Option Bytes) (m : Bytes) (k g : Forest)
         → Both text.now table.now paths own src.now tape.now p vsrc.now vtape.now q n around.start around.end K w t o m k g
-        → Grew out.old 0 (both_part n o m (inside K n (w ▸ m) (set_in n t o) k g)) (sibling o m k) (8192 * (next_at vtape.now q - q))
+        → Grew out.old 0 (both_part n o m (inside K n (w ▸ m) (set_in n t o) k g)) (sibling o m k) (next_at vtape.now q - q)
         (262144 * (next_at tape.now p - p + (next_at vtape.now q - q))) result out.new }
 {
     let e = element_at(tape, p);
@@ -104,7 +103,7 @@ pub fn write_added(
         × (hi ≤ 2 ^ 32) × (vhi ≤ 2 ^ 32) × (at + (262144 * (hi - lo + (vhi - vlo)) + 32768) < 2 ^ 58) }
     ensures { (K : KeyList) (w : Path) (t : Times) (f v : Forest)
         → Held text.now table.now paths place src.now tape.now lo hi vsrc.now vtape.now vlo vhi n around.start around.end K w t f v
-        → Grew out.old at (inside K n w t f v) f (8192 * (vhi - vlo)) (262144 * (hi - lo + (vhi - vlo)) + 32768) result out.new }
+        → Grew out.old at (inside K n w t f v) f (vhi - vlo) (262144 * (hi - lo + (vhi - vlo)) + 32768) result out.new }
 {
     if !is_above(table, paths, place) {
         return write_contents(src, tape, lo, hi, vsrc, vtape, vlo, vhi, n, around, out, at);
@@ -120,7 +119,7 @@ pub fn write_added(
         if order == 2 {
             let w = view_at(vtape, q);
             to += put_newest(n, vsrc, vtape, q, w.next, &mut out[from..], 0);
-            fresh += count_nodes(vsrc, vtape, q, w.next);
+            fresh += w.next - q;
             q = w.next;
         } else if order == 0 {
             to += write_old(src, tape, p, around, &mut out[from..]);
@@ -153,7 +152,7 @@ pub fn write_added(
     let last = write_new(vsrc, vtape, q, vhi, n, out, to);
     Added {
         at: last,
-        fresh: fresh + count_nodes(vsrc, vtape, q, vhi),
+        fresh: fresh + (vhi - q),
     }
 }
 
@@ -177,7 +176,7 @@ pub fn add(
         × (at + (262144 * (hi + vhi) + 65536) < 2 ^ 58) }
     ensures { (K : KeyList) (f v : Forest)
         → Adding text.now table.now paths src.now tape.now hi vsrc.now vtape.now vhi n K f v
-        → Grew out.old at (add_forest K n v f) f (8192 * vhi) (262144 * (hi + vhi) + 65536) result out.new }
+        → Grew out.old at (add_forest K n v f) f vhi (262144 * (hi + vhi) + 65536) result out.new }
 {
     let inside = put_times(Timestamp::up_to(n + 1), out, at);
     let v = view_at(tape, 0);

@@ -1,7 +1,8 @@
 // Adding a version's content to what a frontier of the archive holds.
-ghost use Rattle.std.specs.Prelude.{◌≡◌, ◌&&◌, ℕ, ◌+◌, ◌*◌, ◌-◌, ◌%◌, ◌^◌, ◌<◌, ◌≤◌, eqb, ltb, length};
+ghost use Rattle.std.specs.Prelude.{◌≡◌, true, ◌&&◌, ℕ, ◌+◌, ◌*◌, ◌-◌, ◌%◌, ◌^◌, ◌<◌, ◌≤◌, eqb, ltb, length};
 ghost use Rattle.xml.specs.Forest.{Forest};
 ghost use Rattle.xml.specs.Tape.{head_at, Tape, Valid};
+ghost use Rattle.keys.specs.Legal.{untimed};
 ghost use Rattle.timestamp.specs.Times.{Times};
 ghost use Rattle.versions.specs.Walk.{add_branch, add_bare, add_content};
 ghost use Rattle.versions.specs.AddParts.{Says, BranchesIn, FrontIn};
@@ -10,7 +11,6 @@ ghost use Rattle.adding.specs.Growth.{Grew};
 
 use crate::timed::{put_more, put_within};
 use keys::places::Part;
-use walks::count::count_nodes;
 use walks::timed::put_newest;
 use xml::compare::same_nodes;
 use xml::tape::view_at;
@@ -39,7 +39,8 @@ fn write_branches(
 ) -> Added
     requires { SomeBranches n src.now tape.now lo hi × Valid vsrc.now vtape.now vlo vhi × (n ≤ 998) × (hi ≤ 2 ^ 32) × (vhi ≤ 2 ^ 32) × (at < 2 ^ 58) }
     ensures { (f v : Forest) → Tape src.now tape.now lo hi f → Tape vsrc.now vtape.now vlo vhi v
-        → BranchesIn n f → Grew out.old at (add_branch n v f) f (8192 * (vhi - vlo)) (262144 * (hi - lo + (vhi - vlo)) + 32768) result out.new }
+        → BranchesIn n f → untimed v ≡ true
+        → Grew out.old at (add_branch n v f) f (vhi - vlo) (262144 * (hi - lo + (vhi - vlo)) + 32768) result out.new }
 {
     let mut p = lo;
     let mut to = at;
@@ -56,7 +57,7 @@ fn write_branches(
     let last = put_newest(n, vsrc, vtape, vlo, vhi, out, to);
     Added {
         at: last,
-        fresh: count_nodes(vsrc, vtape, vlo, vhi),
+        fresh: vhi - vlo,
     }
 }
 
@@ -77,8 +78,8 @@ fn write_bare(
 ) -> Added
     requires { Valid src.now tape.now lo hi × (around.start ≤ around.end) × (around.end ≤ length src.now) × (around.end - around.start ≤ 3000) × Valid vsrc.now vtape.now vlo vhi × (n ≤ 998) × (hi ≤ 2 ^ 32) × (vhi ≤ 2 ^ 32) × (at < 2 ^ 58) }
     ensures { (t : Times) (f v : Forest) → Tape src.now tape.now lo hi f → Tape vsrc.now vtape.now vlo vhi v
-        → Says n src.now around.start around.end t
-        → Grew out.old at (add_bare n t v f) f (8192 * (vhi - vlo)) (262144 * (hi - lo + (vhi - vlo)) + 32768) result out.new }
+        → untimed v ≡ true → Says n src.now around.start around.end t
+        → Grew out.old at (add_bare n t v f) f (vhi - vlo) (262144 * (hi - lo + (vhi - vlo)) + 32768) result out.new }
 {
     if same_nodes(vsrc, vtape, vlo, vhi, src, tape, lo, hi) {
         let last = write_at(src, tape, lo, hi, out, at);
@@ -88,7 +89,7 @@ fn write_bare(
     let last = put_newest(n, vsrc, vtape, vlo, vhi, out, to);
     Added {
         at: last,
-        fresh: count_nodes(vsrc, vtape, vlo, vhi),
+        fresh: vhi - vlo,
     }
 }
 
@@ -120,8 +121,8 @@ pub fn write_contents(
 ) -> Added
     requires { SomeFront n src.now tape.now lo hi × (around.start ≤ around.end) × (around.end ≤ length src.now) × (around.end - around.start ≤ 3000) × Valid vsrc.now vtape.now vlo vhi × (n ≤ 998) × (hi ≤ 2 ^ 32) × (vhi ≤ 2 ^ 32) × (at < 2 ^ 58) }
     ensures { (t : Times) (f v : Forest) → Tape src.now tape.now lo hi f → Tape vsrc.now vtape.now vlo vhi v
-        → FrontIn n f → Says n src.now around.start around.end t
-        → Grew out.old at (add_content n t v f) f (8192 * (vhi - vlo)) (262144 * (hi - lo + (vhi - vlo)) + 32768) result out.new }
+        → FrontIn n f → untimed v ≡ true → Says n src.now around.start around.end t
+        → Grew out.old at (add_content n t v f) f (vhi - vlo) (262144 * (hi - lo + (vhi - vlo)) + 32768) result out.new }
 {
     if is_branched(tape, lo, hi) {
         return write_branches(src, tape, lo, hi, vsrc, vtape, vlo, vhi, n, out, at);

@@ -81,7 +81,7 @@ pub fn write_old(src: &[u8], tape: &[u32], p: usize, around: Part, out: &mut [u8
     requires { (p < next_at tape.now p) × Valid src.now tape.now p (next_at tape.now p) × (next_at tape.now p ≤ 2 ^ 32) × (around.start ≤ around.end) × (around.end ≤ length src.now) × (around.end - around.start ≤ 3000) }
     ensures { ((n : ℕ) (t : Times) (o : Option Bytes) (m : Bytes) (k : Forest) → n ≤ 999 → At src.now tape.now p o m k
         → Says n src.now around.start around.end t → Wrote out.old 0 (write (old_part t o m k)) result out.new)
-        × (result ≤ 3012 + 196640 * (next_at tape.now p - p)) }
+        × (result ≤ 3012 + 163840 * (next_at tape.now p - p)) }
 {
     let v = view_at(tape, p);
     if v.kind == 2 {

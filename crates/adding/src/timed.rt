@@ -38,7 +38,7 @@ pub fn put_more(
 ) -> usize
     requires { (a ≤ e) × (e ≤ length src.now) × (e - a ≤ 3000) × IsSetTo n (slice a e src.now) × (n ≤ 998) × Valid src.now tape.now lo hi × (hi ≤ 2 ^ 32) × (at < 2 ^ 59) }
     ensures { ((s : ℕ → Bool) (f : Forest) → parsed (slice a e src.now) ≡ accepted s → Tape src.now tape.now lo hi f
-        → Wrote out.old at (write (stamp (text_of (adding (n + 1) s)) f end)) result out.new) × (result ≤ at + 3012 + 196640 * (hi - lo)) }
+        → Wrote out.old at (write (stamp (text_of (adding (n + 1) s)) f end)) result out.new) × (result ≤ at + 3012 + 163840 * (hi - lo)) }
 {
     let inside = put_grown(src, a, e, n, out, at);
     let close = write_at(src, tape, lo, hi, out, inside);
@@ -58,7 +58,7 @@ pub fn put_within(
 ) -> usize
     requires { (a ≤ e) × (e ≤ length src.now) × (e - a ≤ 3000) × Valid src.now tape.now lo hi × (hi ≤ 2 ^ 32) × (at < 2 ^ 59) }
     ensures { ((f : Forest) → Tape src.now tape.now lo hi f
-        → Wrote out.old at (write (stamp (slice a e src.now) f end)) result out.new) × (result ≤ at + 3012 + 196640 * (hi - lo)) }
+        → Wrote out.old at (write (stamp (slice a e src.now) f end)) result out.new) × (result ≤ at + 3012 + 163840 * (hi - lo)) }
 {
     let inside = put_open(false, src, a, e, out, at);
     let close = write_at(src, tape, lo, hi, out, inside);

@@ -217,7 +217,7 @@ module _ (keys src : Bytes) (table : List Mark) {cells : List ℕ} {k hi n : ℕ
 -- what the walk requires, for a version that is there
 pub back-asks : {src cells : List ℕ} {hi i : ℕ} → Reaches src cells hi i
     → (0 < hi) × (next_at cells 0 ≡ hi) × (head_at cells 0 % 4 ≡ 2) × Timely i src cells 0 hi × (1 ≤ i) × (times_in i (bytes_at src cells 0) ≡ always i)
-    × (0 + 196640 * hi < 2 ^ 60)
+    × (0 + 163840 * hi < 2 ^ 60)
 back-asks {i = i} x =
     let a = x.lies.archive in
     let K = x.lies.keys in

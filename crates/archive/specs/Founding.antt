@@ -1,16 +1,18 @@
 -- The archive of one version: its `T` is around the version itself, and 13 never applies to it.
-use Rattle.std.specs.Prelude.{◌+◌, ◌≤◌, ◌≡◌, refl, length}
+use Rattle.std.specs.Prelude.{◌+◌, ◌≤◌, ◌≡◌, refl, ◌||◌, length}
 use Rattle.std.proofs.Common.{arith, ◌∙◌, length-append}
 use Rattle.std.proofs.Math.Path.{ap, ap₂}
 use mathlib.Core.List.{[], ◌∷◌, ◌++◌, append-nil}
-use borrow.Author.Tests.{le-ltb}
+use Rattle.std.proofs.Math.Dec.{ltb}
+use borrow.Author.Tests.{le-ltb, ltb-false}
 use Rattle.xml.specs.Bytes.{Bytes, bytes}
-use Rattle.xml.specs.Forest.{Forest, end, stamp, write, nodes}
+use Rattle.xml.specs.Truth.{or_left, or_right}
+use Rattle.xml.specs.Forest.{Forest, end, stamp, write, nodes, depth}
 use Rattle.model.specs.Gather.{gather}
 use Rattle.keys.specs.Result.{ok}
 use Rattle.keys.specs.KeyList.{KeyList}
-use Rattle.keys.specs.Version.{version}
-use Rattle.keys.specs.Versions.{version-legal, small-parts}
+use Rattle.keys.specs.Version.{version, too_large}
+use Rattle.keys.specs.Versions.{version-legal}
 use Rattle.keys.specs.Tree.{keyed}
 use Rattle.keys.specs.TreeParts.{forest-tree}
 use Rattle.timestamp.specs.Times.{always, only_after, write_times, times_compute}
@@ -40,10 +42,12 @@ module _ (K : KeyList) (s : Bytes) (v : Forest) (e : version K s ≡ ok v) where
   founded-text = ap write founded ∙ append-nil (first_text (write v))
 
   few : nodes v ≤ 512
-  few = (small-parts v (version-legal K s v e).small).1
+  unfolding too_large
+  few = ltb-false 512 (nodes v) (or_right (ltb 16 (depth v)) (ltb 512 (nodes v)) (or_left (ltb 16 (depth v) || ltb 512 (nodes v)) (ltb 16384 (length (write v))) (version-legal K s v e).small))
 
   pub short : length (write v) ≤ 16384
-  short = (small-parts v (version-legal K s v e).small).2
+  unfolding too_large
+  short = ltb-false 16384 (length (write v)) (or_right (ltb 16 (depth v) || ltb 512 (nodes v)) (ltb 16384 (length (write v))) (version-legal K s v e).small)
 
   -- 13 never applies
   founded-small : nodes (archive_of K (v ∷ [])) ≤ 1024

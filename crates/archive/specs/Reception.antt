@@ -1,5 +1,5 @@
 -- A version's text received: what is asked of its tape, what the answer says, and a law for each answer.
-use Rattle.std.specs.Prelude.{ℕ, ◌≤◌, ◌≡◌, refl, Bool, true, false, eqb, length}
+use Rattle.std.specs.Prelude.{ℕ, ◌*◌, ◌≤◌, ◌≡◌, refl, Bool, true, false, eqb, length}
 use Rattle.std.proofs.Math.Path.{sym}
 use Rattle.std.proofs.Common.{◌∙◌, ap, subst, arith}
 use mathlib.Core.List.{List, []}
@@ -65,16 +65,16 @@ pub none-there : {key_text : Bytes} {table : List ℕ} {n : ℕ} {src left : Lis
 none-there {src = src} e K t = record { forest = end; is = white-vacant K src e; tape = at-end refl; few = omega arith }
 
 -- ---- the reader's answers of any other, and those of `arrange`
-module _ (src cells : List ℕ) {r : Reply} (black : all is_white src ≡ false) where
-  pub read_done : {count : ℕ} → length src ≤ 16384 → r ≡ Reads count → Replied false src cells r → OnTape src cells count
-  read_done {count} l e x = let g : Filled false src cells count = subst (Replied false src cells) e x in
+module _ (src before cells : List ℕ) {r : Reply} (black : all is_white src ≡ false) where
+  pub read_done : {count : ℕ} → length src ≤ 16384 → r ≡ Reads count → Replied false src before cells r → OnTape src cells count
+  read_done {count} l e x = let g : Filled false src before cells count = subst (Replied false src before cells) e x in
       record { forest = g.forest; is = read-rooted src black ∙ g.is; tape = g.tape; few = omega (arith, g.count, version-fits false src g.forest g.is) }
 
-  pub read-wrong : {p : ℕ} → r ≡ Wrong p → Replied false src cells r → read_version src ≡ broken p
-  read-wrong e x = read-rooted src black ∙ subst (Replied false src cells) e x
+  pub read-wrong : {p : ℕ} → r ≡ Wrong p → Replied false src before cells r → read_version src ≡ broken p
+  read-wrong e x = read-rooted src black ∙ subst (Replied false src before cells) e x
 
-  pub read-full : r ≡ Full → Replied false src cells r → length src ≤ length cells → (p : ℕ) × (read_version src ≡ broken p)
-  read-full e x l = let f = full-broken false src cells (subst (Replied false src cells) e x) l in (f.0, read-rooted src black ∙ f.1)
+  pub read-full : r ≡ Full → Replied false src before cells r → length src ≤ length cells → (p : ℕ) × (read_version src ≡ broken p)
+  read-full e x l = let f = full-broken false src cells (subst (Replied false src before cells) e x) l in (f.0, read-rooted src black ∙ f.1)
 
 module _ {key_text : Bytes} {table : List ℕ} {n : ℕ} {src cells : List ℕ} {count : ℕ} (left : List ℕ) {r : Arranged} where
   pub arranged-done : {m : ℕ} → r ≡ Arranges m → Answers key_text table n src cells count left r

@@ -18,7 +18,7 @@ unfolding retrieve_on version_text
 retrieve-steps keys s i out work = sym (retrieves keys s i out work)
 
 -- what the walk requires, for a version that is there
-pub version-asks : {src cells : List ℕ} {hi i : ℕ} → Reaches src cells hi i → Timely i src cells 0 hi × (0 + 196640 * (hi - 0) < 2 ^ 61)
+pub version-asks : {src cells : List ℕ} {hi i : ℕ} → Reaches src cells hi i → Timely i src cells 0 hi × (0 + 163840 * (hi - 0) < 2 ^ 61)
 version-asks x = let a = x.lies.archive in (reaches-timely x, omega (arith, a.few))
 
 -- what it writes is no longer than the archive's text

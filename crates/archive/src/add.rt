@@ -16,8 +16,7 @@ use crate::Answer;
 use crate::received::{Received, receive};
 use adding::add::add;
 use keys::load::{Loaded, load};
-use legality::open::{Opened, open};
-use walks::count::count_nodes;
+use legality::open::{Opened, count_nodes, open};
 use xml::tape::clear;
 use xml::writer::put_part;
 

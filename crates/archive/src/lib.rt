@@ -1,4 +1,6 @@
 // The station archive: the calls.
+#![tactic(auto)]
+
 pub mod add;
 pub mod back;
 pub mod by_value;

@@ -1,4 +1,6 @@
 // Document 01's demonstration: the archive of the record of one station, written after each version.
+#![tactic(auto)]
+
 ghost use Rattle.io.specs.Counts.{IsPrefixLen};
 
 use archive::Answer;

@@ -1,4 +1,6 @@
 // What the programs over the archive share: files read and replaced by name, and refusals said in the words of documents 01 and 02.
+#![tactic(auto)]
+
 ghost use Rattle.std.specs.Prelude.{◌≤◌, ◌≡◌, length};
 ghost use Rattle.io.specs.Counts.{IsPrefixLen};
 
@@ -164,10 +166,10 @@ pub fn say_refusal(number: u32) {
         4 => say(b": key list breaks a rule\n"),
         5 => say(b": version not in the XML subset\n"),
         6 => say(
-            b": version deeper than 16, over 512 nodes, over eight attributes on an element, or its written form over 16,384 bytes\n",
+            b": version deeper than 16, over 512 nodes, or its written form over 16,384 bytes\n",
         ),
         7 => say(
-            b": a path not in the list or an attribute above or at a frontier, refused text, or the name `T` anywhere\n",
+            b": a path not in the list above or at a frontier, refused text, or the name `T` anywhere\n",
         ),
         8 => say(b": a key child missing, repeated or illegal\n"),
         9 => say(b": two siblings with one name and key\n"),

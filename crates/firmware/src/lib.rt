@@ -1,5 +1,7 @@
 // The monitor's C entries: the calls on numbers and byte slices, with work cells of their own.
 // In C a slice is a pointer and a length (include/station_archive.h).
+#![tactic(auto)]
+
 mod cells;
 
 ghost use Rattle.std.specs.Prelude.{◌≡◌, [], length as size_of};

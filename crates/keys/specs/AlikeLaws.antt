@@ -1,21 +1,18 @@
 -- Forests that are alike: beneath a frontier they are the same; refusals 6, 7 and 8 apply to both or to neither, and so does 9 where 8 does
 -- not apply.
 use Rattle.std.proofs.Common.{arith, ◌∙◌}
-use Rattle.std.specs.Prelude.{◌≡◌, Bool, true, false, ◌&&◌, ◌||◌, ltb}
+use Rattle.std.specs.Prelude.{◌≡◌, Bool, true, false, ◌&&◌, ◌||◌}
 use Rattle.std.proofs.Math.Path.{refl, sym, ap, ap₂}
 use Rattle.std.proofs.Math.Bool.{not}
 use Rattle.std.proofs.Math.ListN.{length, length-append}
 use Rattle.xml.specs.Bytes.{Bytes, any, all, same, is_white}
-use Rattle.xml.specs.Tags.{name_of, parts}
 use Rattle.xml.specs.Truth.{clash, by-test, or_swap}
 use Rattle.xml.specs.Forest.{Forest, elem, text, write, nodes, depth}
-use Rattle.keys.specs.Result.{ok}
-use Rattle.keys.specs.KeyList.{Path, KeyList, key_list, above, key_names_at}
+use Rattle.keys.specs.KeyList.{Path, KeyList, above, key_names_at, rules_kept}
 use Rattle.keys.specs.KeyListLaws.{beneath}
-use Rattle.keys.specs.Version.{◌▸◌, Label, drop_white, crowded, too_large, misplaced, is_key_value, run_in, label, same_label, find, is_some, unkeyed, doubled}
-use Rattle.keys.specs.Named.{above-bare}
+use Rattle.keys.specs.Version.{◌▸◌, Label, drop_white, too_large, misplaced, is_key_value, run_in, label, same_label, find, is_some, unkeyed, doubled}
 use Rattle.keys.specs.Alike.{Alike, swapped, moved, inside, past, beyond, as_is, backwards, then}
-use Rattle.keys.specs.DropLaws.{drop-run, keep_run, drop-kids, key-front}
+use Rattle.keys.specs.DropLaws.{drop-run, keep_run, key-front}
 use Rattle.keys.specs.Labelled.{has_keys}
 use Rattle.keys.specs.Sorting.{astray}
 use Rattle.keys.specs.SortedKept.{find-elem}
@@ -39,7 +36,7 @@ value-alike : {K : KeyList} {p : Path} {f g : Forest} → above K p ≡ false �
 value-alike a x = (ap is_key_value (front-alike a x), ap run_in (front-alike a x))
 
 -- ---- 6 and 7: a measure of siblings that goes by each of them, in whatever order, and by what each holds
-module _ (keys : Bytes) (K : KeyList) (legal : key_list keys ≡ ok K) {A : Type 0} (μ : Path → Forest → A)
+module _ (K : KeyList) {A : Type 0} (μ : Path → Forest → A)
     (swap : (p : Path) (n : Bytes) (k : Forest) (m : Bytes) (j r : Forest) → μ p (elem n k (elem m j r)) ≡ μ p (elem m j (elem n k r)))
     (move : (p : Path) (n : Bytes) (k : Forest) (b : Bytes) (r : Forest) → μ p (elem n k (text b r)) ≡ μ p (text b (elem n k r)))
     (kids : (p : Path) (n : Bytes) (k j r : Forest) → μ (p ▸ n) k ≡ μ (p ▸ n) j → μ p (elem n k r) ≡ μ p (elem n j r))
@@ -47,20 +44,14 @@ module _ (keys : Bytes) (K : KeyList) (legal : key_list keys ≡ ok K) {A : Type
     (run : (p : Path) (b : Bytes) (r s : Forest) → μ p r ≡ μ p s → μ p (text b r) ≡ μ p (text b s)) where
   measure-alike : {p : Path} {f g : Forest} → Alike K p f g → μ p (drop_white K p f) ≡ μ p (drop_white K p g)
   unfolding drop_white
-  measure-alike {p} (swapped {n = n} {m = m} {k = k} {j = j} {r = r} a) = swap p n (drop_white K (p ▸ name_of n) k) m (drop_white K (p ▸ name_of m) j) (drop_white K p r)
+  measure-alike {p} (swapped {n = n} {m = m} {k = k} {j = j} {r = r} a) = swap p n (drop_white K (p ▸ n) k) m (drop_white K (p ▸ m) j) (drop_white K p r)
   measure-alike {p} (moved {n = n} {b = b} {k = k} {r = r} a) =
-      let d = drop_white K (p ▸ name_of n) k in
+      let d = drop_white K (p ▸ n) k in
       by-test (above K p && all is_white b)
       (λ e. ap (λ z. μ p (elem n d z)) (drop-run K p b r e) ∙ ap (μ p) (sym (drop-run K p b (elem n k r) e)))
       (λ e. ap (λ z. μ p (elem n d z)) (keep_run K p b r e) ∙ move p n d b (drop_white K p r) ∙ ap (μ p) (sym (keep_run K p b (elem n k r) e)))
-  measure-alike {p} (inside {n = n} {k = k} {j = j} {r = r} x) =
-      let h = measure-alike x in
-      by-test (above K (p ▸ n))
-      (λ a.
-      let bare = above-bare keys K legal p n a in
-      kids p n _ _ (drop_white K p r) (ap (μ (p ▸ n)) (drop-kids K p n k (λ _. bare)) ∙ h ∙ sym (ap (μ (p ▸ n)) (drop-kids K p n j (λ _. bare)))))
-      (λ a. ap (λ z. μ p (drop_white K p (elem n z r))) (front-alike a x))
-  measure-alike {p} (past {n = n} {k = k} {r = r} {s = s} x) = rest p n (drop_white K (p ▸ name_of n) k) (drop_white K p r) (drop_white K p s) (measure-alike x)
+  measure-alike {p} (inside {n = n} {k = k} {j = j} {r = r} x) = kids p n (drop_white K (p ▸ n) k) (drop_white K (p ▸ n) j) (drop_white K p r) (measure-alike x)
+  measure-alike {p} (past {n = n} {k = k} {r = r} {s = s} x) = rest p n (drop_white K (p ▸ n) k) (drop_white K p r) (drop_white K p s) (measure-alike x)
   measure-alike {p} (beyond {b = b} {r = r} {s = s} x) =
       let h = measure-alike x in
       by-test (above K p && all is_white b)
@@ -70,40 +61,33 @@ module _ (keys : Bytes) (K : KeyList) (legal : key_list keys ≡ ok K) {A : Type
   measure-alike (backwards x) = sym (measure-alike x)
   measure-alike (then x y) = measure-alike x ∙ measure-alike y
 
-module _ (keys : Bytes) (K : KeyList) (legal : key_list keys ≡ ok K) {p : Path} {f g : Forest} (x : Alike K p f g) where
+module _ (K : KeyList) {p : Path} {f g : Forest} (x : Alike K p f g) where
   depth-alike : depth (drop_white K p f) ≡ depth (drop_white K p g)
   unfolding depth
   depth-alike =
-      measure-alike keys K legal (λ _ h. depth h) (λ p n k m j r. omega arith) (λ p n k b r. refl) (λ p n k j r e. omega arith)
-      (λ p n k r s e. omega arith) (λ p b r s e. e) x
+      measure-alike K (λ _ h. depth h) (λ p n k m j r. omega arith) (λ p n k b r. refl) (λ p n k j r e. omega arith) (λ p n k r s e. omega arith)
+      (λ p b r s e. e) x
 
   nodes-alike : nodes (drop_white K p f) ≡ nodes (drop_white K p g)
   unfolding nodes
   nodes-alike =
-      measure-alike keys K legal (λ _ h. nodes h) (λ p n k m j r. omega arith) (λ p n k b r. omega arith) (λ p n k j r e. omega arith)
-      (λ p n k r s e. omega arith) (λ p b r s e. omega arith) x
+      measure-alike K (λ _ h. nodes h) (λ p n k m j r. omega arith) (λ p n k b r. omega arith) (λ p n k j r e. omega arith) (λ p n k r s e. omega arith)
+      (λ p b r s e. omega arith) x
 
   length-alike : length (write (drop_white K p f)) ≡ length (write (drop_white K p g))
   unfolding write
   length-alike =
-      measure-alike keys K legal (λ _ h. length (write h)) (λ p n k m j r. simp length-append (omega arith)) (λ p n k b r. simp length-append (omega arith))
+      measure-alike K (λ _ h. length (write h)) (λ p n k m j r. simp length-append (omega arith)) (λ p n k b r. simp length-append (omega arith))
       (λ p n k j r e. simp length-append (omega arith)) (λ p n k r s e. simp length-append (omega arith)) (λ p b r s e. simp length-append (omega arith)) x
-
-  crowded-alike : crowded (drop_white K p f) ≡ crowded (drop_white K p g)
-  unfolding crowded
-  crowded-alike =
-      measure-alike keys K legal (λ _ h. crowded h)
-      (λ p n k m j r. or_swap (ltb 8 (length (parts 0 n)) || crowded k) (ltb 8 (length (parts 0 m)) || crowded j) (crowded r)) (λ p n k b r. refl)
-      (λ p n k j r e. rw e) (λ p n k r s e. rw e) (λ p b r s e. e) x
 
   pub large-alike : too_large (drop_white K p f) ≡ too_large (drop_white K p g)
   unfolding too_large
-  large-alike = rw (depth-alike, nodes-alike, length-alike, crowded-alike)
+  large-alike = rw (depth-alike, nodes-alike, length-alike)
 
   pub misplaced-alike : misplaced K p (drop_white K p f) ≡ misplaced K p (drop_white K p g)
   unfolding misplaced
   misplaced-alike =
-      measure-alike keys K legal (misplaced K) (λ p n k m j r. or_swap (astray K p n k) (astray K p m j) (misplaced K p r))
+      measure-alike K (misplaced K) (λ p n k m j r. or_swap (astray K p n k) (astray K p m j) (misplaced K p r))
       (λ p n k b r. or_swap (astray K p n k) (above K p) (misplaced K p r)) (λ p n k j r e. rw e) (λ p n k r s e. rw e) (λ p b r s e. rw e) x
 
 -- ---- 8 and 9
@@ -116,7 +100,7 @@ find-text : (K : KeyList) (l : Label) (p : Path) (b : Bytes) (r : Forest) → is
 unfolding find
 find-text K l p b r = refl
 
-module _ (keys : Bytes) (K : KeyList) (legal : key_list keys ≡ ok K) where
+module _ (K : KeyList) (rules : rules_kept K ≡ true) where
   -- the key children
   tallied-alike : {q : Path} {f g : Forest} → Alike K q f g → (key : Bytes) → any (same key) (key_names_at K q) ≡ true → tallied key f ≡ tallied key g
   tallied-alike (swapped {n = n} {m = l} {k = k} {j = j} {r = r} a) key m =
@@ -126,7 +110,7 @@ module _ (keys : Bytes) (K : KeyList) (legal : key_list keys ≡ ok K) where
       tallied-elem key n k (text b r) ∙ ap (with (same key n) k) (tallied-text key b r) ∙ sym (tallied-text key b (elem n k r) ∙ tallied-elem key n k r)
   tallied-alike {q} (inside {n = n} {k = k} {j = j} {r = r} x) key m =
       by-test (same key n)
-      (λ e. let v = value-alike (key-front keys K legal q key n m e) x in tallied-elem key n k r ∙ with_value (same key n) k j (tallied key r) v.0 v.1 ∙ sym (tallied-elem key n j r))
+      (λ e. let v = value-alike (key-front K rules q key n m e) x in tallied-elem key n k r ∙ with_value (same key n) k j (tallied key r) v.0 v.1 ∙ sym (tallied-elem key n j r))
       (λ e. tallied-elem key n k r ∙ ap (λ b. with b k (tallied key r)) e ∙ sym (tallied-elem key n j r ∙ ap (λ b. with b j (tallied key r)) e))
   tallied-alike (past {n = n} {k = k} {r = r} {s = s} x) key m =
       tallied-elem key n k r ∙ ap (with (same key n) k) (tallied-alike x key m) ∙ sym (tallied-elem key n k s)

@@ -1,19 +1,20 @@
 -- A version put in canonical order: what is asked of its tape, and what the answer says.
-use Rattle.std.specs.Prelude.{ℕ, ◌≤◌, ◌≡◌, true, false, not, ◌&&◌, ◌||◌, List, []}
-use Rattle.std.proofs.Common.{arith, sym, ◌∙◌, subst, eq-eqb, ne_eqb}
-use Rattle.xml.specs.Tags.{attr_name, name_of, parts, named_t, tag_nodes}
-use Rattle.xml.specs.Bytes.{Bytes, bytes, same, any}
+use Rattle.std.specs.Prelude.{ℕ, ◌≤◌, ◌≡◌, refl, true, false, not, ◌&&◌, ◌||◌, List, [], length}
+use Rattle.std.proofs.Common.{arith, sym, ◌∙◌, subst}
+use Rattle.std.proofs.Math.Dec.{ltb}
+use borrow.Author.Tests.{ltb-false, eq-eqb, ne_eqb}
+use Rattle.xml.specs.Bytes.{Bytes, bytes, same}
 use Rattle.xml.specs.Truth.{clash, or_left, or_right}
-use Rattle.xml.specs.Forest.{Forest, end, elem, text, stamp, nodes}
+use Rattle.xml.specs.Forest.{Forest, end, elem, text, stamp, write, nodes, depth}
 use Rattle.xml.specs.Tape.{Tape, size}
 use Rattle.xml.specs.TapeLaws.{tape-size, tape-one}
 use Rattle.keys.specs.ResultLaws.{ok-inj}
-use Rattle.keys.specs.KeyList.{Path, KeyList, above}
-use Rattle.keys.specs.Version.{◌▸◌, drop_white, too_large, misplaced, unkeyed, doubled, ordered, placed}
+use Rattle.keys.specs.KeyList.{Path, KeyList, above, listed}
+use Rattle.keys.specs.KeyListLaws.{rules-kept}
+use Rattle.keys.specs.Version.{◌▸◌, drop_white, too_large, misplaced, unkeyed, doubled, ordered}
 use Rattle.keys.specs.Sorting.{misplaced-kids, misplaced-rest, sorted}
 use Rattle.keys.specs.SortedKept.{sorted-placed, sorted-nodes}
 use Rattle.keys.specs.DropLaws.{unkeyed-drop, doubled-drop}
-use Rattle.keys.specs.Versions.{small-parts}
 use Rattle.keys.specs.Table.{Table}
 use Rattle.keys.specs.PlaceLaws.{place-root}
 use Rattle.keys.specs.Building.{ContentFit, ContentArranged}
@@ -34,7 +35,7 @@ pub record VersionFit (key_text : Bytes) (table : List ℕ) (n : ℕ) (src cells
 pub record Ordered (K : KeyList) (v : Forest) (src left : List ℕ) (m : ℕ) : Type 0 where
   pub single : doubled K [] v ≡ false
   pub tape : Tape src left 0 m (ordered K [] v)
-  pub count : m ≤ nodes v
+  pub count : m ≡ nodes v
   pub few : m ≤ 512
 
 -- that, or 9 applies
@@ -47,38 +48,34 @@ abbrev pub Answers : Bytes → List ℕ → ℕ → List ℕ → List ℕ → �
 Answers key_text table n src cells count left r =
     (K : KeyList) (f : Forest) → Table key_text table n K → Tape src cells 0 count f → AnswerOf K (drop_white K [] f) src left r
 
-tag-some : (n : Bytes) → named_t n ≡ false → 1 ≤ tag_nodes n
-unfolding named_t tag_nodes
-tag-some n e = rw (or_left (same (name_of n) (bytes "T")) (any (λ x. same (attr_name x) (bytes "T")) (parts 0 n)) e) (omega arith)
-
--- where no element is a `T`, each node counts, and attributes besides
-size-nodes : (K : KeyList) (p : Path) (f : Forest) → misplaced K p f ≡ false → size f ≤ nodes f
+-- where no element is a `T`, each node counts
+size-nodes : (K : KeyList) (p : Path) (f : Forest) → misplaced K p f ≡ false → size f ≡ nodes f
 unfolding size nodes misplaced
-size-nodes K p end m = omega arith
+size-nodes K p end m = refl
 size-nodes K p (text b r) m = omega (arith, size-nodes K p r (or_right (above K p) (misplaced K p r) m))
 size-nodes K p (stamp t k r) m = clash m
 size-nodes K p (elem n k r) m =
-    let e = or_left (named_t n) (above K p && not (placed K p n)) (or_left (named_t n || above K p && not (placed K p n)) (misplaced K (p ▸ n) k)
-    (or_left (named_t n || above K p && not (placed K p n) || misplaced K (p ▸ n) k) (misplaced K p r) m)) in
+    let e = or_left (same n (bytes "T")) (above K p && not (listed K (p ▸ n))) (or_left (same n (bytes "T") || above K p && not (listed K (p ▸ n))) (misplaced K (p ▸ n) k)
+    (or_left (same n (bytes "T") || above K p && not (listed K (p ▸ n)) || misplaced K (p ▸ n) k) (misplaced K p r) m)) in
     let i = size-nodes K (p ▸ n) k (misplaced-kids K p n k r m) in
     let j = size-nodes K p r (misplaced-rest K p n k r m) in
-    let o = tag-some n e in
-    omega arith
+    rw e (omega arith)
 
 module _ {key_text : Bytes} {table : List ℕ} {n : ℕ} {src cells : List ℕ} {count : ℕ} (g : VersionFit key_text table n src cells count) where
   abbrev v : Forest
   v = drop_white g.key_list [] g.forest
 
   few-nodes : nodes v ≤ 512
-  few-nodes = (small-parts v g.small).1
+  unfolding too_large
+  few-nodes = ltb-false 512 (nodes v) (or_right (ltb 16 (depth v)) (ltb 512 (nodes v)) (or_left (ltb 16 (depth v) || ltb 512 (nodes v)) (ltb 16384 (length (write v))) g.small))
 
-  ordered-size : size (ordered g.key_list [] v) ≤ nodes v
+  ordered-size : size (ordered g.key_list [] v) ≡ nodes v
   ordered-size =
       let s = sorted g.key_list [] v g.placed in
-      omega (arith, size-nodes g.key_list [] (ordered g.key_list [] v) (sorted-placed g.key_list s ∙ g.placed), sorted-nodes g.key_list s)
+      size-nodes g.key_list [] (ordered g.key_list [] v) (sorted-placed g.key_list s ∙ g.placed) ∙ sorted-nodes g.key_list s
 
   raw-keyed : unkeyed g.key_list [] g.forest ≡ false
-  raw-keyed = sym (unkeyed-drop key_text g.key_list g.tabled.accepted [] g.forest) ∙ g.keyed
+  raw-keyed = sym (unkeyed-drop g.key_list (rules-kept key_text g.key_list g.tabled.accepted) [] g.forest) ∙ g.keyed
 
   pub version-fits : ContentFit key_text table n 128 src cells 0 count 0
   version-fits =
@@ -100,10 +97,10 @@ module _ {key_text : Bytes} {table : List ℕ} {n : ℕ} {src cells : List ℕ} 
   version-ordered {left = left} {m = m} b d K f t h =
       let e : g.key_list ≡ K = ok-inj (sym g.tabled.accepted ∙ t.accepted) in
       let x = (b.built d).tape g.key_list [] g.tabled (place-root g.key_list) g.forest g.tape in
-      let c : m ≤ nodes v = omega (arith, tape-size x, ordered-size) in
+      let c : m ≡ nodes v = omega (arith, tape-size x, ordered-size) in
       subst (λ J. Ordered J (drop_white J [] f) src left m) e (rw (tape-one h g.tape)
       (record {
-        single = doubled-drop key_text g.key_list g.tabled.accepted [] g.forest ∙ sym (b.doubled-is g.key_list [] g.tabled (place-root g.key_list) g.forest g.tape) ∙ ne_eqb m 513 d;
+        single = doubled-drop g.key_list (rules-kept key_text g.key_list g.tabled.accepted) [] g.forest ∙ sym (b.doubled-is g.key_list [] g.tabled (place-root g.key_list) g.forest g.tape) ∙ ne_eqb m 513 d;
         tape = x;
         count = c;
         few = omega (arith, few-nodes);
@@ -113,4 +110,4 @@ pub version-twice : {key_text : Bytes} {table : List ℕ} {n : ℕ} {src cells :
     → ContentArranged key_text table n 128 src cells 0 count out 0 m left → m ≡ 513
     → (K : KeyList) (f : Forest) → Table key_text table n K → Tape src cells 0 count f → doubled K [] (drop_white K [] f) ≡ true
 version-twice {key_text} {m = m} b e K f t h =
-    doubled-drop key_text K t.accepted [] f ∙ sym (b.doubled-is K [] t (place-root K) f h) ∙ eq-eqb m 513 e
+    doubled-drop K (rules-kept key_text K t.accepted) [] f ∙ sym (b.doubled-is K [] t (place-root K) f h) ∙ eq-eqb m 513 e

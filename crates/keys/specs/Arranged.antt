@@ -3,18 +3,16 @@ use Rattle.std.specs.Prelude.{◌≤◌, Bool, ◌&&◌}
 use Rattle.std.proofs.Common.{arith, sym, ◌∙◌}
 use Rattle.std.proofs.Math.Path.{◌≡◌, refl, ap}
 use Rattle.std.proofs.Math.Bool.{true, false}
-use Rattle.xml.specs.Tags.{name_of}
 use Rattle.xml.specs.Bytes.{Bytes, all, is_white}
 use Rattle.xml.specs.Truth.{clash, bool_by}
 use Rattle.xml.specs.Forest.{Forest, end, elem, text, stamp}
 use Rattle.xml.specs.Tape.{size}
-use Rattle.keys.specs.Result.{ok}
-use Rattle.keys.specs.KeyList.{Path, KeyList, key_list, above, key_names_at}
-use Rattle.keys.specs.Version.{◌▸◌, is_bare, label, drop_white, misplaced, unkeyed, insert_by, ordered}
-use Rattle.keys.specs.Sorting.{ordered-elem, sorted}
+use Rattle.keys.specs.KeyList.{Path, KeyList, above, key_names_at, rules_kept}
+use Rattle.keys.specs.Version.{◌▸◌, label, drop_white, misplaced, unkeyed, insert_by, ordered}
+use Rattle.keys.specs.Sorting.{misplaced-kids, misplaced-rest, ordered-elem, sorted}
 use Rattle.keys.specs.SortedKept.{sorted-size}
 use Rattle.keys.specs.SortedKeys.{sorted-label, keyed-here, keyed-kids, keyed-rest}
-use Rattle.keys.specs.DropLaws.{drop-kids, drop-elem, drop-parts, label-drop, unkeyed-drop}
+use Rattle.keys.specs.DropLaws.{label-drop, unkeyed-drop}
 use Rattle.keys.specs.Labelled.{has_keys}
 use Rattle.keys.specs.Siblings.{elements, tags, Each, each_with, in_order}
 use Rattle.keys.specs.SiblingLaws.{LabelKept, each-order, insert-with}
@@ -29,7 +27,6 @@ each_arranged K p f = each_with (λ n k. arranged K (p ▸ n) k) f
 
 -- what is known of each element
 pub record Kid (K : KeyList) (p : Path) (n : Bytes) (k : Forest) : Type 0 where
-  pub bare : is_bare n ≡ true
   pub placed : misplaced K (p ▸ n) (drop_white K (p ▸ n) k) ≡ false
   pub once : has_keys (key_names_at K (p ▸ n)) k ≡ true
   pub keyed : unkeyed K (p ▸ n) k ≡ false
@@ -39,7 +36,7 @@ pub record Kid (K : KeyList) (p : Path) (n : Bytes) (k : Forest) : Type 0 where
 few-tags : (K : KeyList) (p : Path) (f : Forest) → tags f ≤ size (drop_white K p f)
 unfolding tags size drop_white
 few-tags K p end = omega arith
-few-tags K p (elem n k r) = omega (arith, few-tags K (p ▸ name_of n) k, few-tags K p r)
+few-tags K p (elem n k r) = omega (arith, few-tags K (p ▸ n) k, few-tags K p r)
 few-tags K p (stamp t k r) = omega (arith, few-tags K p k, few-tags K p r)
 few-tags K p (text b r) =
     let i = few-tags K p r in
@@ -48,24 +45,12 @@ few-tags K p (text b r) =
 pub arranged-tags : (K : KeyList) (p : Path) (f : Forest) → misplaced K p (drop_white K p f) ≡ false → tags f ≤ size (arranged K p f)
 arranged-tags K p f m = rw (sorted-size K (sorted K p (drop_white K p f) m)) (few-tags K p f)
 
--- ---- an element among its siblings
-pub arranged-elem : (K : KeyList) (p : Path) (n : Bytes) (k r : Forest) → above K p ≡ true → is_bare n ≡ true
-    → arranged K p (elem n k r) ≡ insert_by K p n (arranged K (p ▸ n) k) (arranged K p r)
-unfolding drop_white
-arranged-elem K p n k r a b =
-    ordered-elem K p n (drop_white K (p ▸ name_of n) k) (drop_white K p r) a
-    ∙ ap (λ z. insert_by K p n (ordered K (p ▸ n) z) (arranged K p r)) (drop-kids K p n k (λ _. b))
-
--- sorting what it holds leaves its label
-pub label-arranged : (keys : Bytes) (K : KeyList) → key_list keys ≡ ok K → (p : Path) (n : Bytes) (k r : Forest) → misplaced K p (drop_white K p (elem n k r)) ≡ false
-    → unkeyed K p (elem n k r) ≡ false → label K p n (arranged K (p ▸ n) k) ≡ label K p n k
-label-arranged keys K legal p n k r m u =
-    sorted-label K p n (drop_white K (p ▸ n) k) (drop_white K p r) (ap (unkeyed K p) (sym (drop-elem K p n k r m)) ∙ unkeyed-drop keys K legal p (elem n k r) ∙ u)
-    (sorted K (p ▸ n) (drop_white K (p ▸ n) k) (drop-parts K p n k r m).1)
-    ∙ label-drop keys K legal p n k
-
 -- ---- siblings above the frontiers that have passed 7 and 8
-module _ (keys : Bytes) (K : KeyList) (legal : key_list keys ≡ ok K) (p : Path) (high : above K p ≡ true) where
+module _ (K : KeyList) (p : Path) (rules : rules_kept K ≡ true) (high : above K p ≡ true) where
+  drop-elem : (n : Bytes) (k r : Forest) → drop_white K p (elem n k r) ≡ elem n (drop_white K (p ▸ n) k) (drop_white K p r)
+  unfolding drop_white
+  drop-elem n k r = refl
+
   text-misplaced : (b : Bytes) (r : Forest) → misplaced K p (text b r) ≡ true
   unfolding misplaced
   text-misplaced b r = rw high
@@ -80,24 +65,34 @@ module _ (keys : Bytes) (K : KeyList) (legal : key_list keys ≡ ok K) (p : Path
       go true e h = rw (high, e) refl
       go false e h = let z : misplaced K p (text b (drop_white K p r)) ≡ false = rw (high, e) at h in clash (sym (text-misplaced b (drop_white K p r)) ∙ z)
 
+  arranged-elem : (n : Bytes) (k r : Forest) → arranged K p (elem n k r) ≡ insert_by K p n (arranged K (p ▸ n) k) (arranged K p r)
+  arranged-elem n k r = ap (ordered K p) (drop-elem n k r) ∙ ordered-elem K p n (drop_white K (p ▸ n) k) (drop_white K p r) high
+
+  -- the children of an element have passed 7 and 8, and sorting them leaves its label
+  label-arranged : (n : Bytes) (k r : Forest) → misplaced K p (drop_white K p (elem n k r)) ≡ false → unkeyed K p (elem n k r) ≡ false
+      → label K p n (arranged K (p ▸ n) k) ≡ label K p n k
+  label-arranged n k r m u =
+      sorted-label K p n (drop_white K (p ▸ n) k) (drop_white K p r) (ap (unkeyed K p) (sym (drop-elem n k r)) ∙ unkeyed-drop K rules p (elem n k r) ∙ u)
+      (sorted K (p ▸ n) (drop_white K (p ▸ n) k) (misplaced-kids K p n (drop_white K (p ▸ n) k) (drop_white K p r) (rw (drop-elem n k r) at m)))
+      ∙ label-drop K rules p n k
+
   stamp-misplaced : (t : Bytes) (k r : Forest) → misplaced K p (drop_white K p (stamp t k r)) ≡ false → ⊥
   unfolding misplaced drop_white
   stamp-misplaced t k r e = clash e
 
-  pub kids-each : (f : Forest) → misplaced K p (drop_white K p f) ≡ false → unkeyed K p f ≡ false → Each (Kid K p) f
+  kids-each : (f : Forest) → misplaced K p (drop_white K p f) ≡ false → unkeyed K p f ≡ false → Each (Kid K p) f
   kids-each end m u = tt
   kids-each (text b r) m u = kids-each r (ap (misplaced K p) (sym (drop-text b r m)) ∙ m) (unfold unkeyed in u)
   kids-each (stamp t k r) m u = absurd (stamp-misplaced t k r m)
   kids-each (elem n k r) m u =
-      let w = drop-parts K p n k r m in (
+      let w : misplaced K p (elem n (drop_white K (p ▸ n) k) (drop_white K p r)) ≡ false = rw (drop-elem n k r) at m in (
         record {
-          bare = w.0 high;
-          placed = w.1;
+          placed = misplaced-kids K p n (drop_white K (p ▸ n) k) (drop_white K p r) w;
           once = keyed-here K p n k r u;
           keyed = keyed-kids K p n k r u;
-          label_is = label-arranged keys K legal p n k r m u;
+          label_is = label-arranged n k r m u;
         },
-        kids-each r w.2 (keyed-rest K p n k r u),
+        kids-each r (misplaced-rest K p n (drop_white K (p ▸ n) k) (drop_white K p r) w) (keyed-rest K p n k r u),
       )
 
   labels-kept : (f : Forest) → Each (Kid K p) f → Each (LabelKept K p (λ n k. arranged K (p ▸ n) k)) f
@@ -112,7 +107,8 @@ module _ (keys : Bytes) (K : KeyList) (legal : key_list keys ≡ ok K) (p : Path
   arranged-each (text b r) m h = ap (ordered K p) (drop-text b r m) ∙ arranged-each r (ap (misplaced K p) (sym (drop-text b r m)) ∙ m) h
   arranged-each (stamp t k r) m h = absurd (stamp-misplaced t k r m)
   arranged-each (elem n k r) m h =
-      arranged-elem K p n k r high h.0.bare ∙ ap (insert_by K p n (arranged K (p ▸ n) k)) (arranged-each r (drop-parts K p n k r m).2 h.1)
+      let w : misplaced K p (elem n (drop_white K (p ▸ n) k) (drop_white K p r)) ≡ false = rw (drop-elem n k r) at m in
+      arranged-elem n k r ∙ ap (insert_by K p n (arranged K (p ▸ n) k)) (arranged-each r (misplaced-rest K p n (drop_white K (p ▸ n) k) (drop_white K p r) w) h.1)
       ∙ insert-with K p (λ m j. arranged K (p ▸ m) j) n k (in_order K p (elements r)) h.0.label_is (each-order K p (LabelKept K p (λ m j. arranged K (p ▸ m) j)) r (labels-kept r h.1))
 
   module _ (f : Forest) (placed : misplaced K p (drop_white K p f) ≡ false) (keyed : unkeyed K p f ≡ false) where

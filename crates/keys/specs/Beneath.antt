@@ -3,8 +3,7 @@ use Rattle.std.specs.Prelude.{◌≡◌, true, false, not, ◌&&◌}
 use Rattle.std.proofs.Math.Path.{refl, ap}
 use Rattle.std.proofs.lemmas.Bool.{not-true}
 use Rattle.model.specs.Masks.{clash}
-use Rattle.xml.specs.Tags.{named_t}
-use Rattle.xml.specs.Bytes.{all}
+use Rattle.xml.specs.Bytes.{bytes, all, same}
 use Rattle.xml.specs.Forest.{Forest, end, elem, text, stamp}
 use Rattle.keys.specs.KeyList.{Path, KeyList, above}
 use Rattle.keys.specs.Version.{◌▸◌, misplaced, unkeyed, doubled, ordered}
@@ -19,12 +18,12 @@ module _ (K : KeyList) where
   front-placed q (text b r) a u = rw a (front-placed q r a u)
   front-placed q (stamp t k r) a u = absurd (clash u refl)
   front-placed q (elem n k r) a u =
-      let c = and_left (not (named_t n) && untimed k) (untimed r) u in
+      let c = and_left (not (same n (bytes "T")) && untimed k) (untimed r) u in
       or-both _ (misplaced K q r)
       (or-both _ (misplaced K (q ▸ n) k)
-      (or-both (named_t n) _ (not-true _ (and_left (not (named_t n)) _ c)) (rw a))
-      (front-placed (q ▸ n) k (beneath K q n a) (and_right (not (named_t n)) _ c)))
-      (front-placed q r a (and_right (not (named_t n) && untimed k) _ u))
+      (or-both (same n (bytes "T")) _ (not-true _ (and_left (not (same n (bytes "T"))) _ c)) (rw a))
+      (front-placed (q ▸ n) k (beneath K q n a) (and_right (not (same n (bytes "T"))) _ c)))
+      (front-placed q r a (and_right (not (same n (bytes "T")) && untimed k) _ u))
 
   pub front-keyed : (q : Path) (f : Forest) → above K q ≡ false → unkeyed K q f ≡ false
   unfolding unkeyed all

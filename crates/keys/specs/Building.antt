@@ -7,9 +7,10 @@ use Rattle.xml.specs.Truth.{or-first}
 use Rattle.xml.specs.Forest.{Forest, end, elem, join}
 use Rattle.xml.specs.Complete.{join-end, join-assoc}
 use Rattle.xml.specs.Held.{size-join}
-use Rattle.xml.specs.Tape.{next_at, Tagged, Tape, at-end, size}
+use Rattle.xml.specs.Tape.{next_at, Node, Tape, at-end, size}
 use Rattle.xml.specs.TapeLaws.{tape-le, tape-size, tape-join, tape-one, tape-same}
 use Rattle.keys.specs.KeyList.{Path, KeyList, above}
+use Rattle.keys.specs.KeyListLaws.{rules-kept}
 use Rattle.keys.specs.Version.{◌▸◌, drop_white, misplaced, unkeyed, doubled}
 use Rattle.keys.specs.Table.{place_of, Table}
 use Rattle.keys.specs.Placed.{OfPlace}
@@ -18,7 +19,7 @@ use Rattle.keys.specs.Siblings.{Each, each_with, twins, doubled_kids, elements}
 use Rattle.keys.specs.SiblingLaws.{doubled-parts, kids-end, kids-elem, kids-order}
 use Rattle.keys.specs.Doubles.{DoubledIn, DoubledKid}
 use Rattle.keys.specs.Entries.{Entry, Lists, no_more, one_more, Few, Sorted, lists-le, lists-none}
-use Rattle.keys.specs.Arranged.{arranged, each_arranged, Kid, kids-each, arranged-tags, order-kids, arranged-order}
+use Rattle.keys.specs.Arranged.{arranged, each_arranged, Kid, arranged-tags, order-kids, arranged-order}
 
 -- the nodes lo to hi are children of an element at the place, have passed 7 and 8, and fit from node m on
 pub record ContentFit (key_text : Bytes) (table : List ℕ) (n place : ℕ) (src cells : List ℕ) (lo hi m : ℕ) : Type 0 where
@@ -42,7 +43,7 @@ pub record ElementFit (key_text : Bytes) (table : List ℕ) (n place : ℕ) (src
   pub high : above key_list path ≡ true
   pub name : Bytes
   pub kids : Forest
-  pub node : Tagged src cells p name
+  pub node : Node src cells p 1 name
   pub tape : Tape src cells (p + 1) (next_at cells p) kids
   pub kid : Kid key_list path name kids
   pub fits : m + 1 + size (arranged key_list (path ▸ name) kids) ≤ 512
@@ -58,7 +59,7 @@ pub record ContentBuilt (key_text : Bytes) (table : List ℕ) (n place : ℕ) (s
 pub record ElementBuilt (key_text : Bytes) (table : List ℕ) (n place : ℕ) (src cells : List ℕ) (p : ℕ) (out : List ℕ) (m r : ℕ) (left : List ℕ) : Type 0 where
   pub kept : Below out m left
   pub tape : OfPlace key_text table n place
-      (λ K q. (b : Bytes) (k : Forest) → Tagged src cells p b → Tape src cells (p + 1) (next_at cells p) k → Tape src left m r (elem b (arranged K (q ▸ b) k) end))
+      (λ K q. (b : Bytes) (k : Forest) → Node src cells p 1 b → Tape src cells (p + 1) (next_at cells p) k → Tape src left m r (elem b (arranged K (q ▸ b) k) end))
 
 -- the answer r: 513 where 9 applies, else the node after what is built
 pub record ContentArranged (key_text : Bytes) (table : List ℕ) (n place : ℕ) (src cells : List ℕ) (lo hi : ℕ) (out : List ℕ) (m r : ℕ) (left : List ℕ) : Type 0 where
@@ -219,17 +220,8 @@ module _ {key_text : Bytes} {table : List ℕ} {n place : ℕ} {src cells : List
 
 -- ---- how it begins
 module _ {key_text : Bytes} {table : List ℕ} {n place : ℕ} {src cells : List ℕ} {lo hi m : ℕ} (g : ContentFit key_text table n place src cells lo hi m) where
-  pub fit-checked : above g.key_list g.path ≡ true → Checked key_text table n place src cells lo hi
-  fit-checked h =
-      record {
-        key_list = g.key_list;
-        path = g.path;
-        tabled = g.tabled;
-        place_is = g.place_is;
-        forest = g.forest;
-        tape = g.tape;
-        kids = kids-each key_text g.key_list g.tabled.accepted g.path h g.forest g.placed g.keyed;
-      }
+  pub fit-checked : Checked key_text table n place src cells lo hi
+  fit-checked = record { key_list = g.key_list; path = g.path; tabled = g.tabled; place_is = g.place_is; forest = g.forest; tape = g.tape; keyed = g.keyed }
 
   pub fit-few-tags : Few src cells lo hi
   fit-few-tags f h = rw (tape-one h g.tape) (omega (arith, g.fits, arranged-tags g.key_list g.path g.forest g.placed))
@@ -245,6 +237,7 @@ module _ {key_text : Bytes} {table : List ℕ} {n place : ℕ} {src cells : List
     -- no two have
     pub progress_start : (k ≡ 513 → ⊥) → Progress key_text table n place src cells lo hi out m order 0 k m out
     progress_start apart =
+        let rules = rules-kept key_text g.key_list g.tabled.accepted in
         record {
           key_list = g.key_list;
           path = g.path;
@@ -258,8 +251,8 @@ module _ {key_text : Bytes} {table : List ℕ} {n place : ℕ} {src cells : List
           rest = _;
           built = at-end refl;
           lists = s.lists apart;
-          kids = order-kids key_text g.key_list g.tabled.accepted g.path h g.forest g.placed g.keyed;
-          whole = unfold join in arranged-order key_text g.key_list g.tabled.accepted g.path h g.forest g.placed g.keyed;
+          kids = order-kids g.key_list g.path rules h g.forest g.placed g.keyed;
+          whole = unfold join in arranged-order g.key_list g.path rules h g.forest g.placed g.keyed;
           alike = doubled-parts g.key_list g.path g.forest h ∙ rw (s.apart apart) (sym (kids-order g.key_list g.path g.forest));
           kept = λ i l. refl;
           long = refl;

@@ -4,8 +4,8 @@ use native.Mathlib.Omega.{arith}
 use Rattle.std.proofs.Common.{sym, ◌∙◌, ap, length-set, get_or-set_same, get_or-set_other}
 use Rattle.xml.specs.Bytes.{Bytes}
 use Rattle.xml.specs.Forest.{Forest, end}
-use Rattle.xml.specs.Tape.{head_at, next_at, Tagged, at-end, at-elem, size}
-use Rattle.xml.specs.TapeLaws.{tape-size, tagged-same, tape-same}
+use Rattle.xml.specs.Tape.{head_at, next_at, Node, at-end, at-elem, size}
+use Rattle.xml.specs.TapeLaws.{tape-size, node-same, tape-same}
 use Rattle.keys.specs.KeyList.{Path, KeyList, above}
 use Rattle.keys.specs.Version.{◌▸◌, ordered}
 use Rattle.keys.specs.Beneath.{front-single, front_ordered}
@@ -28,19 +28,19 @@ module _ {key_text : Bytes} {table : List ℕ} {n place : ℕ} {src cells : List
         place_is = e;
         forest = g.kids;
         tape = g.tape;
-        start = omega (arith, g.node.node.held);
+        start = omega (arith, g.node.held);
         placed = g.kid.placed;
         keyed = g.kid.keyed;
         fits = g.fits;
       }
 
   -- 9 applies to what it holds
-  pub element-twice : {own m e : ℕ} {out mid new left : List ℕ} → OfPlace key_text table n place (λ K q. (b : Bytes) → Tagged src cells p b → place_of K (q ▸ b) ≡ own)
+  pub element-twice : {own m e : ℕ} {out mid new left : List ℕ} → OfPlace key_text table n place (λ K q. (b : Bytes) → Node src cells p 1 b → place_of K (q ▸ b) ≡ own)
       → ContentArranged key_text table n own src cells (p + 1) (next_at cells p) new (m + 1) e mid → e ≡ 513 → ElementArranged key_text table n place src cells p out m 513 left
   element-twice {e = e} of_place c z =
       record { doubled-is = λ K q t d b k a h. ap (λ i. eqb i 513) (sym z) ∙ c.doubled-is K (q ▸ b) t (of_place K q t d b a) k h; built = λ x. absurd (x refl) }
 
-  module _ {own : ℕ} (out : List ℕ) (m : ℕ) (mid : List ℕ) (e : ℕ) (of_place : OfPlace key_text table n place (λ K q. (b : Bytes) → Tagged src cells p b → place_of K (q ▸ b) ≡ own))
+  module _ {own : ℕ} (out : List ℕ) (m : ℕ) (mid : List ℕ) (e : ℕ) (of_place : OfPlace key_text table n place (λ K q. (b : Bytes) → Node src cells p 1 b → place_of K (q ▸ b) ≡ own))
       (w : ContentArranged key_text table n own src cells (p + 1) (next_at cells p) (set out (2 * m) (head_at cells p)) (m + 1) e mid) (apart : e ≡ 513 → ⊥) (o : length mid ≡ length out) (room : 2 * e ≤ length mid)
       (here : 2 * m + 1 < length out) where
     inner : ContentBuilt key_text table n own src cells (p + 1) (next_at cells p) (set out (2 * m) (head_at cells p)) (m + 1) e mid
@@ -60,7 +60,7 @@ module _ {key_text : Bytes} {table : List ℕ} {n place : ℕ} {src cells : List
         record {
           kept = λ i l. other i (omega arith) ∙ inner.kept i (omega arith) ∙ get_or-set_other out (2 * m) i (head_at cells p) 0 (omega arith);
           tape = λ K q t d b k a h.
-              at-elem {q = e} {k = arranged K (q ▸ b) k} {r = end} (tagged-same (set mid (2 * m + 1) e) first (simp length-set (omega arith)) a)
+              at-elem {q = e} {k = arranged K (q ▸ b) k} {r = end} (node-same (set mid (2 * m + 1) e) first (simp length-set (omega arith)) a)
               (rw second (tape-same (set mid (2 * m + 1) e) (record { room = simp length-set room; same = λ i x y. other i (omega arith) }) (inner.tape K (q ▸ b) t (of_place K q t d b a) k h)))
               (at-end second);
         }

@@ -5,7 +5,7 @@ use Rattle.std.proofs.lemmas.Bool.{eqb-false}
 use Rattle.xml.specs.Truth.{by-test}
 use Rattle.xml.specs.Forest.{Forest}
 use Rattle.xml.specs.Tape.{head_at, next_at, Tape, at-end, at-text, at-elem, at-stamp}
-use Rattle.xml.specs.TapeLaws.{tape-le, tape-room, node-same, tagged-same}
+use Rattle.xml.specs.TapeLaws.{tape-le, tape-room, node-same}
 
 -- the nodes lo to hi are on the tape, and name none but themselves and hi
 pub record Linked (cells : List ℕ) (lo hi : ℕ) : Type 0 where
@@ -71,7 +71,7 @@ module _ {src cells : List ℕ} {lo hi : ℕ} (new : List ℕ) (m : ℕ) (c : Mo
       let o = tape-le k in
       let w = tape-le r in
       let x = c p p' a (omega arith) g in
-      at-elem {q = q'} {k = f} {r = s} (tagged-same new x.0 (omega arith) n) (tape-moved (p' + 1) (next_at new p') k (omega arith) (omega arith) (omega arith) x.1) (tape-moved (next_at new p') q' r (omega arith) b x.1 h)
+      at-elem {q = q'} {k = f} {r = s} (node-same new x.0 (omega arith) n) (tape-moved (p' + 1) (next_at new p') k (omega arith) (omega arith) (omega arith) x.1) (tape-moved (next_at new p') q' r (omega arith) b x.1 h)
   tape-moved {p} {q} p' q' (at-stamp {k = f} {r = s} n k r) a b g h =
       let o = tape-le k in
       let w = tape-le r in

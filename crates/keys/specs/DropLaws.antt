@@ -4,19 +4,13 @@ use Rattle.std.proofs.Math.Path.{refl, sym, ap, ap₂}
 use Rattle.std.proofs.Common.{◌∙◌}
 use Rattle.std.proofs.Math.Bool.{not, ◌&&◌, ◌||◌}
 use mathlib.Core.List.{List, [], ◌∷◌}
-use Rattle.std.proofs.lemmas.Bool.{not-false}
-use Rattle.xml.specs.Tags.{name_of}
-use Rattle.xml.specs.Bytes.{Bytes, any, all, same, is_white, is_name}
+use Rattle.xml.specs.Bytes.{Bytes, any, all, same, is_white}
 use Rattle.xml.specs.BytesLaws.{same-is, same_self}
-use Rattle.xml.specs.Truth.{by-test, or-first, or-second, and_right, and-false, any-mem, all-mem}
+use Rattle.xml.specs.Truth.{by-test, or-first, or-second}
 use Rattle.xml.specs.Forest.{Forest, end, elem, text, stamp}
-use Rattle.keys.specs.Result.{ok}
-use Rattle.keys.specs.KeyList.{Path, KeyList, key_list, listed, above, key_names_at}
-use Rattle.keys.specs.KeyListLaws.{beneath, key-frontier, front-bare, rules-kept}
-use Rattle.keys.specs.Beneath.{front-keyed, front-single}
-use Rattle.keys.specs.Named.{name-alone, above-bare, key-names}
-use Rattle.keys.specs.TreeParts.{placed-elem}
-use Rattle.keys.specs.Version.{◌▸◌, Label, drop_white, is_bare, placed, misplaced, called, is_one_value, unkeyed, value_in, label, same_label, find, is_some, doubled}
+use Rattle.keys.specs.KeyList.{Path, KeyList, above, key_names_at, rules_kept}
+use Rattle.keys.specs.KeyListLaws.{beneath, key-frontier}
+use Rattle.keys.specs.Version.{◌▸◌, Label, drop_white, called, is_one_value, unkeyed, value_in, label, same_label, find, is_some, doubled}
 use Rattle.keys.specs.SortedKept.{find-elem}
 use Rattle.keys.specs.Labelled.{values_of, has_keys}
 
@@ -33,29 +27,9 @@ keep_run K p b r e = rw (e, drop_white)
 pub front-drop : (K : KeyList) (q : Path) (f : Forest) → above K q ≡ false → drop_white K q f ≡ f
 unfolding drop_white
 front-drop K q end a = refl
-front-drop K q (elem n k r) a = ap₂ (elem n) (front-drop K (q ▸ name_of n) k (beneath K q (name_of n) a)) (front-drop K q r a)
+front-drop K q (elem n k r) a = ap₂ (elem n) (front-drop K (q ▸ n) k (beneath K q n a)) (front-drop K q r a)
 front-drop K q (text b r) a = rw (a, drop_white) (ap (text b) (front-drop K q r a))
 front-drop K q (stamp t k r) a = ap₂ (stamp t) (front-drop K q k a) (front-drop K q r a)
-
--- white space is dropped by the names of elements; where a tag is a name alone, or stands beneath a frontier, that is by tags
-pub drop-kids : (K : KeyList) (p : Path) (n : Bytes) (k : Forest) → (above K p ≡ true → is_bare n ≡ true) → drop_white K (p ▸ name_of n) k ≡ drop_white K (p ▸ n) k
-unfolding is_bare
-drop-kids K p n k h =
-    by-test (above K p)
-    (λ a. ap (λ (m : Bytes). drop_white K (p ▸ m) k) (sym (same-is n (name_of n) (h a))))
-    (λ a. front-drop K (p ▸ name_of n) k (beneath K p (name_of n) a) ∙ sym (front-drop K (p ▸ n) k (beneath K p n a)))
-
--- so it is where nothing is refused for 7
-pub placed-bare : (K : KeyList) (p : Path) (n : Bytes) → above K p && not (placed K p n) ≡ false → above K p ≡ true → is_bare n ≡ true
-placed-bare K p n h a = and_right (listed K (p ▸ n)) (is_bare n) (not-false _ (and-false a h))
-
-module _ (K : KeyList) (p : Path) (n : Bytes) (k r : Forest) (m : misplaced K p (drop_white K p (elem n k r)) ≡ false) where
-  pub drop-elem : drop_white K p (elem n k r) ≡ elem n (drop_white K (p ▸ n) k) (drop_white K p r)
-  unfolding drop_white
-  drop-elem = ap (λ z. elem n z (drop_white K p r)) (drop-kids K p n k (placed-bare K p n (placed-elem K p n _ _ m).1))
-
-  pub drop-parts : (above K p ≡ true → is_bare n ≡ true) × (misplaced K (p ▸ n) (drop_white K (p ▸ n) k) ≡ false) × (misplaced K p (drop_white K p r) ≡ false)
-  drop-parts = let w = placed-elem K p n _ _ (rw drop-elem at m) in (placed-bare K p n w.1, w.2, w.3)
 
 -- a function of siblings that passes over text does not see whether it is dropped
 over-text : {A : Type 0} (μ : Forest → A) (x : Bool) (b : Bytes) (r : Forest) → μ (text b r) ≡ μ r
@@ -63,17 +37,12 @@ over-text : {A : Type 0} (μ : Forest → A) (x : Bool) (b : Bytes) (r : Forest)
 over-text μ true b r e = refl
 over-text μ false b r e = e
 
-module _ (keys : Bytes) (K : KeyList) (legal : key_list keys ≡ ok K) where
-  -- a key child is called by a name alone, and stands at a frontier
+module _ (K : KeyList) (rules : rules_kept K ≡ true) where
+  -- a key child stands at a frontier
   pub key-front : (p : Path) (key n : Bytes) → any (same key) (key_names_at K p) ≡ true → same key n ≡ true → above K (p ▸ n) ≡ false
-  key-front p key n m e = ap (λ (z : Bytes). above K (p ▸ z)) (sym (same-is key n e)) ∙ key-frontier K p key (rules-kept keys K legal) m
+  key-front p key n m e = ap (λ (z : Bytes). above K (p ▸ z)) (sym (same-is key n e)) ∙ key-frontier K p key rules m
 
-  key-alone : (p : Path) (key n : Bytes) → any (same key) (key_names_at K p) ≡ true → same key n ≡ true → is_bare n ≡ true
-  key-alone p key n m e =
-      let t = any-mem (same key) (key_names_at K p) m in
-      name-alone n (ap is_name (sym (same-is key n e) ∙ same-is key t.0 t.2) ∙ all-mem is_name t.1 (key-names keys K legal p))
-
-  called-drop : (p : Path) (key : Bytes) (f : Forest) → any (same key) (key_names_at K p) ≡ true → called key (drop_white K p f) ≡ called key f
+  pub called-drop : (p : Path) (key : Bytes) (f : Forest) → any (same key) (key_names_at K p) ≡ true → called key (drop_white K p f) ≡ called key f
   unfolding called drop_white
   called-drop p key end m = refl
   called-drop p key (text b r) m = over-text (called key) (above K p && all is_white b) b (drop_white K p r) refl ∙ called-drop p key r m
@@ -81,7 +50,7 @@ module _ (keys : Bytes) (K : KeyList) (legal : key_list keys ≡ ok K) where
   called-drop p key (elem n k r) m =
       let i = called-drop p key r m in
       by-test (same key n)
-      (λ e. rw (e, called) (ap₂ ◌∷◌ (drop-kids K p n k (λ _. key-alone p key n m e) ∙ front-drop K (p ▸ n) k (key-front p key n m e)) i))
+      (λ e. rw (e, called) (ap₂ ◌∷◌ (front-drop K (p ▸ n) k (key-front p key n m e)) i))
       (λ e. rw (e, called) i)
 
   -- of all key names
@@ -101,27 +70,13 @@ module _ (keys : Bytes) (K : KeyList) (legal : key_list keys ≡ ok K) where
   keys-drop : (p : Path) (n : Bytes) (k : Forest) → has_keys (key_names_at K (p ▸ n)) (drop_white K (p ▸ n) k) ≡ has_keys (key_names_at K (p ▸ n)) k
   keys-drop p n k = (drop-each (p ▸ n) k (key_names_at K (p ▸ n)) (λ x m. m)).1
 
-  -- an element by whose tag the path lies above the frontiers is called by a name alone; beneath them nothing is keyed
-  kids-drop : {A : Type 0} (μ : Forest → A) (p : Path) (n : Bytes) (k : Forest) → (above K (p ▸ n) ≡ false → (f g : Forest) → μ f ≡ μ g)
-      → μ (drop_white K (p ▸ name_of n) k) ≡ μ (drop_white K (p ▸ n) k)
-  kids-drop μ p n k h = by-test (above K (p ▸ n)) (λ a. ap μ (drop-kids K p n k (λ _. above-bare keys K legal p n a))) (λ a. h a _ _)
-
-  label-named : (p : Path) (n : Bytes) (k : Forest) → label K p n (drop_white K (p ▸ name_of n) k) ≡ label K p n k
-  unfolding label
-  label-named p n k = kids-drop (label K p n) p n k (λ a f g. rw (front-bare K (p ▸ n) a)) ∙ label-drop p n k
-
   -- 8
   pub unkeyed-drop : (p : Path) (f : Forest) → unkeyed K p (drop_white K p f) ≡ unkeyed K p f
-  unfolding unkeyed drop_white all
+  unfolding unkeyed drop_white
   unkeyed-drop p end = refl
   unkeyed-drop p (text b r) = over-text (unkeyed K p) (above K p && all is_white b) b (drop_white K p r) refl ∙ unkeyed-drop p r
   unkeyed-drop p (stamp t k r) = unkeyed-drop p r
-  unkeyed-drop p (elem n k r) =
-      ap₂ ◌||◌
-      (kids-drop (λ z. not (has_keys (key_names_at K (p ▸ n)) z) || unkeyed K (p ▸ n) z) p n k
-      (λ a f g. rw (front-bare K (p ▸ n) a) (front-keyed K (p ▸ n) f a ∙ sym (front-keyed K (p ▸ n) g a)))
-      ∙ ap₂ (λ x y. not x || y) (keys-drop p n k) (unkeyed-drop (p ▸ n) k))
-      (unkeyed-drop p r)
+  unkeyed-drop p (elem n k r) = ap₂ ◌||◌ (ap₂ (λ x y. not x || y) (keys-drop p n k) (unkeyed-drop (p ▸ n) k)) (unkeyed-drop p r)
 
   -- 9
   find-drop : (p : Path) (l : Label) (f : Forest) → is_some (find K p l (drop_white K p f)) ≡ is_some (find K p l f)
@@ -130,8 +85,8 @@ module _ (keys : Bytes) (K : KeyList) (legal : key_list keys ≡ ok K) where
   find-drop p l (text b r) = over-text (λ g. is_some (find K p l g)) (above K p && all is_white b) b (drop_white K p r) refl ∙ find-drop p l r
   find-drop p l (stamp t k r) = find-drop p l r
   find-drop p l (elem n k r) =
-      find-elem K p l n (drop_white K (p ▸ name_of n) k) (drop_white K p r)
-      ∙ ap₂ (λ m x. same_label l m || x) (label-named p n k) (find-drop p l r) ∙ sym (find-elem K p l n k r)
+      find-elem K p l n (drop_white K (p ▸ n) k) (drop_white K p r)
+      ∙ ap₂ (λ m x. same_label l m || x) (label-drop p n k) (find-drop p l r) ∙ sym (find-elem K p l n k r)
 
   pub doubled-drop : (p : Path) (f : Forest) → doubled K p (drop_white K p f) ≡ doubled K p f
   unfolding doubled drop_white
@@ -140,6 +95,5 @@ module _ (keys : Bytes) (K : KeyList) (legal : key_list keys ≡ ok K) where
   doubled-drop p (stamp t k r) = doubled-drop p r
   doubled-drop p (elem n k r) =
       ap₂ ◌||◌
-      (ap₂ (λ x y. above K p && x || y) (ap (λ l. is_some (find K p l (drop_white K p r))) (label-named p n k) ∙ find-drop p (label K p n k) r)
-      (kids-drop (doubled K (p ▸ n)) p n k (λ a f g. front-single K (p ▸ n) f a ∙ sym (front-single K (p ▸ n) g a)) ∙ doubled-drop (p ▸ n) k))
+      (ap₂ (λ x y. above K p && x || y) (ap (λ l. is_some (find K p l (drop_white K p r))) (label-drop p n k) ∙ find-drop p (label K p n k) r) (doubled-drop (p ▸ n) k))
       (doubled-drop p r)

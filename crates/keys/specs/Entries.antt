@@ -12,7 +12,7 @@ use borrow.Author.Tests.{eqb-true, eqb-false, ltb-true, ltb-false}
 use Rattle.xml.specs.Bytes.{Bytes}
 use Rattle.xml.specs.Truth.{by-test}
 use Rattle.xml.specs.Forest.{Forest, end, elem, join}
-use Rattle.xml.specs.Tape.{next_at, Tagged, Tape}
+use Rattle.xml.specs.Tape.{next_at, Node, Tape}
 use Rattle.keys.specs.KeyList.{Path, KeyList}
 use Rattle.keys.specs.Version.{Label, label}
 use Rattle.keys.specs.Placed.{OfPlace}
@@ -23,7 +23,7 @@ use Rattle.keys.specs.Siblings.{is_among, elements, tags, in_order, twins, Ends}
 pub record Entry (src cells : List ℕ) (lo hi p : ℕ) (n : Bytes) (k : Forest) : Type 0 where
   pub low : lo ≤ p
   pub inside : next_at cells p ≤ hi
-  pub node : Tagged src cells p n
+  pub node : Node src cells p 1 n
   pub inner : Tape src cells (p + 1) (next_at cells p) k
 
 -- the entries i to j are these siblings
@@ -56,7 +56,7 @@ pub data Ranked (K : KeyList) (q : Path) (src cells : List ℕ) (lo hi : ℕ) (o
 pub record RankOf (key_text : Bytes) (table : List ℕ) (n place : ℕ) (src cells order : List ℕ) (k p r : ℕ) : Type 0 where
   pub inside : (r ≡ 513 → ⊥) → r ≤ k
   pub rank : OfPlace key_text table n place
-      (λ K q. (m : Bytes) (i : Forest) → Tagged src cells p m → Tape src cells (p + 1) (next_at cells p) i
+      (λ K q. (m : Bytes) (i : Forest) → Node src cells p 1 m → Tape src cells (p + 1) (next_at cells p) i
       → (lo hi : ℕ) (s : Forest) → Lists src cells lo hi order 0 k s → Ranked K q src cells lo hi order k (label K q m i) s r)
 
 -- the nodes lo to hi have at most 512 elements

@@ -4,14 +4,13 @@ use Rattle.std.proofs.Common.{arith, sym, ◌∙◌}
 use Rattle.std.proofs.Math.Path.{ap}
 use Rattle.std.proofs.Math.Bool.{true}
 use mathlib.Core.List.{List, [], ◌∷◌}
-use Rattle.xml.specs.Bytes.{Bytes, same, is_value, is_name}
+use Rattle.xml.specs.Bytes.{Bytes, same, is_value}
 use Rattle.xml.specs.Truth.{clash}
 use Rattle.xml.specs.Forest.{Forest}
-use Rattle.xml.specs.Tape.{head_at, next_at, Node, Tagged, Tape, at-end, at-text, at-elem, at-stamp}
-use Rattle.xml.specs.TapeLaws.{bytes_at, Front, front, tape-le, tagged_is, tagged-start}
+use Rattle.xml.specs.Tape.{head_at, next_at, Node, Tape, at-end, at-text, at-elem, at-stamp}
+use Rattle.xml.specs.TapeLaws.{bytes_at, Front, front, tape-le}
 use Rattle.keys.specs.Version.{called, is_key_value, is_one_value, run_in, value_in}
 use Rattle.keys.specs.Values.{value-plain}
-use Rattle.keys.specs.TagBytes.{same_tag}
 use Rattle.keys.specs.Walks.{Going, going_done, parted, going-past, going-over}
 
 -- of the siblings up to hi, the element r is the first of those of the name, which hold fs
@@ -46,17 +45,13 @@ module _ {src cells : List ℕ} (key : Bytes) {p q : ℕ} {fs : List Forest} (x 
   unfolding called
   key-over = going-over (called key) (λ b r. refl) (λ t k r. refl) x l
 
-  -- the bytes of an element, compared with a name as its tag is
-  as-tag : is_name key ≡ true → {n : Bytes} → Tagged src cells p n → same key n ≡ same key (bytes_at src cells p)
-  as-tag e d = sym (same_tag (tagged-start d) key e ∙ ap (same key) (tagged_is d))
-
-  pub key-past : is_name key ≡ true → head_at cells p % 4 ≡ 1 → same key (bytes_at src cells p) ≡ false → Going src cells (next_at cells p) q fs (called key)
+  pub key-past : head_at cells p % 4 ≡ 1 → same key (bytes_at src cells p) ≡ false → Going src cells (next_at cells p) q fs (called key)
   unfolding called
-  key-past e k s = let y = parted x.tape l k in going-past (called key) x y (rw (as-tag e y.node ∙ s, called))
+  key-past k s = let y = parted x.tape l k in going-past (called key) x y (rw (sym (ap (same key) y.node.bytes-are) ∙ s, called))
 
-  pub key_here : is_name key ≡ true → head_at cells p % 4 ≡ 1 → same key (bytes_at src cells p) ≡ true → KeyAt src cells key q p fs
+  pub key_here : head_at cells p % 4 ≡ 1 → same key (bytes_at src cells p) ≡ true → KeyAt src cells key q p fs
   unfolding called
-  key_here e k s =
+  key_here k s =
       let y = parted x.tape l k in
       there (record {
         front = front x.tape l;
@@ -64,7 +59,7 @@ module _ {src cells : List ℕ} (key : Bytes) {p q : ℕ} {fs : List Forest} (x 
         rest = y.rest;
         inside = y.inner;
         after = y.after;
-        are = x.same ∙ ap (called key) y.is ∙ rw (as-tag e y.node ∙ s, called);
+        are = x.same ∙ ap (called key) y.is ∙ rw (sym (ap (same key) y.node.bytes-are) ∙ s, called);
       })
 
 module _ {src cells : List ℕ} {key : Bytes} where

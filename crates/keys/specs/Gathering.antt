@@ -130,7 +130,7 @@ module _ {K : KeyList} {q : Path} {src cells : List ℕ} {lo hi : ℕ} {f : Fore
       go (at-end e) i w = absurd (omega arith)
       go (at-text {r = r} n u e t) i w =
           record { rest = r; tape = rw e t; passed = x.passed; is = unfold elements in i; apart = x.apart; lists = x.lists; rises = x.rises; few = unfold tags in w }
-      go (at-elem n j t) i w = absurd (h n.node.kind-is)
+      go (at-elem n j t) i w = absurd (h n.kind-is)
       go (at-stamp {r = r} n j t) i w =
           record { rest = r; tape = t; passed = x.passed; is = unfold elements in i; apart = x.apart; lists = x.lists; rises = x.rises; few = unfold tags in omega arith }
 

@@ -35,7 +35,7 @@ module _ {src cells : List ℕ} {lo hi : ℕ} where
   pub value-text : {f : Forest} → Tape src cells lo hi f → (lo ≡ hi → ⊥) → head_at cells lo % 4 ≡ 0 → next_at cells lo ≡ hi → is_key_value f ≡ is_value (bytes_at src cells lo)
   unfolding is_key_value
   value-text (at-end e) d k h = absurd (d e)
-  value-text (at-elem n i r) d k h = absurd (omega (arith, n.node.kind-is))
+  value-text (at-elem n i r) d k h = absurd (omega (arith, n.kind-is))
   value-text (at-stamp n i r) d k h = absurd (omega (arith, n.kind-is))
   value-text (at-text {raw = raw} {b = b} n u e r) d k h =
       ap (λ x. is_key_value (text b x)) (tape-none (rw (sym e ∙ h) at r)) ∙ ap is_value (sym u) ∙ value-raw raw ∙ ap is_value (sym n.bytes-are)

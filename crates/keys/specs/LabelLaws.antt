@@ -4,7 +4,7 @@ use Rattle.std.proofs.Common.{add-one, arith, sym, ◌∙◌, drop-cons, ltb-tru
 use Rattle.std.proofs.Math.Path.{ap}
 use mathlib.Core.Ordering.{Ordering, lt, eq, gt}
 use Rattle.std.proofs.Math.Seq.{slice, drop-length}
-use Rattle.xml.specs.Bytes.{Bytes, is_name}
+use Rattle.xml.specs.Bytes.{Bytes}
 use Rattle.xml.specs.Truth.{by-test, all-mem}
 use Rattle.xml.specs.Forest.{Forest}
 use Rattle.xml.specs.Tape.{Node, Tape}
@@ -15,7 +15,6 @@ use Rattle.keys.specs.Version.{◌▸◌, Label, called, is_one_value, value_in,
 use Rattle.keys.specs.Table.{place_of, name_start, name_end, Table}
 use Rattle.keys.specs.PlaceLaws.{mem-at}
 use Rattle.keys.specs.TableLaws.{table-bare, table-key-path, table-key-name}
-use Rattle.keys.specs.Named.{key-names}
 use Rattle.keys.specs.Ranks.{rank, rank-eq, compare_bytes}
 use Rattle.keys.specs.FindKey.{KeyAt, key-value}
 use Rattle.keys.specs.Labelled.{values_of, KeyedAt}
@@ -38,9 +37,6 @@ module _ {text : Bytes} {table : List ℕ} {n : ℕ} {K : KeyList} (t : Table te
 
   pub key-name-is : slice (name_start table (own + 1 + j)) (name_end table (own + 1 + j)) text ≡ get_or (key_names_at K p) j []
   key-name-is = (table-key-name t p own e key-own j h).1
-
-  pub key-named : is_name (slice (name_start table (own + 1 + j)) (name_end table (own + 1 + j)) text) ≡ true
-  key-named = ap is_name key-name-is ∙ all-mem is_name (mem-at (key_names_at K p) j h) (key-names text K t.accepted p)
 
 -- the bytes of a key name
 abbrev pub key_bytes : Bytes → List ℕ → ℕ → Bytes

@@ -2,10 +2,10 @@
 use Rattle.std.specs.Prelude.{ℕ, ◌+◌, ◌≡◌, Bool, true, List, map}
 use Rattle.xml.specs.Bytes.{Bytes, all}
 use Rattle.xml.specs.Forest.{Forest}
-use Rattle.xml.specs.Tape.{next_at, Tagged, Tape}
+use Rattle.xml.specs.Tape.{next_at, Node, Tape}
 use Rattle.model.specs.Orders.{labels}
 use Rattle.keys.specs.KeyList.{Path, KeyList, key_names_at}
-use Rattle.keys.specs.Version.{◌▸◌, is_bare, called, is_one_value, value_in, label}
+use Rattle.keys.specs.Version.{◌▸◌, called, is_one_value, value_in, label}
 use Rattle.keys.specs.Table.{place_of, Table}
 use Rattle.keys.specs.Placed.{OfPlace}
 use Rattle.keys.specs.Ranks.{rank}
@@ -28,7 +28,7 @@ pub record KeyedAt (text : Bytes) (table : List ℕ) (n place : ℕ) (src cells 
   pub tape : Tape src cells lo hi kids
   pub once : has_keys (key_names_at key_list path) kids ≡ true
 
--- node p is an element in an element at the place, without attributes, and it has its key children
+-- node p is an element in an element at the place, and it has its key children
 pub record Labelled (text : Bytes) (table : List ℕ) (n place : ℕ) (src cells : List ℕ) (p : ℕ) : Type 0 where
   pub key_list : KeyList
   pub path : Path
@@ -36,17 +36,15 @@ pub record Labelled (text : Bytes) (table : List ℕ) (n place : ℕ) (src cells
   pub place_is : place_of key_list path ≡ place
   pub name : Bytes
   pub kids : Forest
-  pub node : Tagged src cells p name
-  pub bare : is_bare name ≡ true
+  pub node : Node src cells p 1 name
   pub tape : Tape src cells (p + 1) (next_at cells p) kids
   pub once : has_keys (key_names_at key_list (path ▸ name)) kids ≡ true
 
--- node q is an element in an element of path p, without attributes, and it has its key children
+-- node q is an element in an element of path p, and it has its key children
 pub record LabelledIn (K : KeyList) (p : Path) (src cells : List ℕ) (q : ℕ) : Type 0 where
   pub name : Bytes
   pub kids : Forest
-  pub node : Tagged src cells q name
-  pub bare : is_bare name ≡ true
+  pub node : Node src cells q 1 name
   pub tape : Tape src cells (q + 1) (next_at cells q) kids
   pub once : has_keys (key_names_at K (p ▸ name)) kids ≡ true
 
@@ -71,12 +69,12 @@ abbrev pub LabelsCompared : Bytes → List ℕ → ℕ → ℕ → List ℕ → 
 LabelsCompared text table n place src1 tape1 p1 src2 tape2 p2 r =
     OfPlace text table n place
     (λ K p. (m1 : Bytes) (k1 : Forest) (m2 : Bytes) (k2 : Forest)
-    → Tagged src1 tape1 p1 m1 → Tape src1 tape1 (p1 + 1) (next_at tape1 p1) k1 → Tagged src2 tape2 p2 m2 → Tape src2 tape2 (p2 + 1) (next_at tape2 p2) k2
+    → Node src1 tape1 p1 1 m1 → Tape src1 tape1 (p1 + 1) (next_at tape1 p1) k1 → Node src2 tape2 p2 1 m2 → Tape src2 tape2 (p2 + 1) (next_at tape2 p2) k2
     → r ≡ rank (labels.cmp (label K p m1 k1) (label K p m2 k2)))
 
 -- the same where the first element is at the place `own`
 abbrev pub LabelsComparedAt : Bytes → List ℕ → ℕ → ℕ → List ℕ → List ℕ → ℕ → List ℕ → List ℕ → ℕ → ℕ → Type 0
 LabelsComparedAt text table n own src1 tape1 p1 src2 tape2 p2 r =
     (K : KeyList) (p : Path) (m1 : Bytes) (k1 : Forest) (m2 : Bytes) (k2 : Forest) → Table text table n K → place_of K (p ▸ m1) ≡ own
-    → Tagged src1 tape1 p1 m1 → Tape src1 tape1 (p1 + 1) (next_at tape1 p1) k1 → Tagged src2 tape2 p2 m2 → Tape src2 tape2 (p2 + 1) (next_at tape2 p2) k2
+    → Node src1 tape1 p1 1 m1 → Tape src1 tape1 (p1 + 1) (next_at tape1 p1) k1 → Node src2 tape2 p2 1 m2 → Tape src2 tape2 (p2 + 1) (next_at tape2 p2) k2
     → r ≡ rank (labels.cmp (label K p m1 k1) (label K p m2 k2))

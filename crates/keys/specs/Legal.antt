@@ -1,13 +1,12 @@
 -- What holds of a legal version, and of its tree of labels: the laws of archives are stated over these.
 use Rattle.std.specs.Prelude.{◌≡◌, Bool, true, false, not, ◌&&◌, List, [], ◌∷◌}
 use Rattle.std.proofs.Math.Option.{Option, none, some}
-use Rattle.xml.specs.Tags.{Written, named_t}
-use Rattle.xml.specs.Bytes.{Bytes, is_value}
+use Rattle.xml.specs.Bytes.{Bytes, bytes, same, is_name, is_value}
 use Rattle.xml.specs.Forest.{Forest, end, elem, text, stamp, Tidy}
 use Rattle.model.specs.Keyed.{Tree, nil, node, look, Ascending}
 use Rattle.model.specs.Orders.{labels}
-use Rattle.keys.specs.KeyList.{Path, KeyList, above, key_names_at}
-use Rattle.keys.specs.Version.{◌▸◌, Label, name_in, too_large, misplaced, unkeyed, doubled, ordered, placed}
+use Rattle.keys.specs.KeyList.{Path, KeyList, listed, above, key_names_at}
+use Rattle.keys.specs.Version.{◌▸◌, Label, name_in, too_large, misplaced, unkeyed, doubled, ordered}
 use Rattle.keys.specs.Address.{values_in}
 use Rattle.keys.specs.Tree.{Content, inner, front}
 
@@ -32,7 +31,7 @@ pub record LegalVersion (K : KeyList) (v : Forest) : Type 0 where
 unfoldable pub untimed : Forest → Bool
 untimed end = true
 untimed (text b r) = untimed r
-untimed (elem n k r) = not (named_t n) && untimed k && untimed r
+untimed (elem n k r) = not (same n (bytes "T")) && untimed k && untimed r
 untimed (stamp t k r) = false
 
 -- ---- trees of labels, over what an entry is
@@ -54,7 +53,7 @@ module _ {E : Type 0} (K : KeyList) (IsInner IsFront : E → Type 0) (KeyEntry :
   unfoldable pub Lawful : Path → Tree Label E → Type 0
   Lawful p nil = Unit {0}
   Lawful p (node l e k r) =
-      Written false (name_in l) × (named_t (name_in l) ≡ false) × (placed K p (name_in l) ≡ true)
+      (is_name (name_in l) ≡ true) × (same (name_in l) (bytes "T") ≡ false) × (listed K (p ▸ name_in l) ≡ true)
       × Kind IsInner IsFront (above K (p ▸ name_in l)) e k
       × KeyChildren KeyEntry (key_names_at K (p ▸ name_in l)) (values_in l) e k
       × Lawful (p ▸ name_in l) k × Lawful p r

@@ -2,7 +2,6 @@ pub mod Result
 pub mod KeyList
 pub mod Version
 pub mod VersionRead
-pub mod Attributed
 pub mod Address
 pub mod Tree
 pub mod Legal
@@ -46,7 +45,6 @@ pub mod Values
 pub mod KeyChild
 pub mod KeyNames
 pub mod Ranks
-pub mod TagBytes
 pub mod FindKey
 pub mod Labelled
 pub mod LabelLaws

@@ -1,7 +1,6 @@
 -- 6 by one walk: nodes and bytes are added up, node by node, until a limit is passed. The walk's meaning, as a recursion on the forest.
-use Rattle.std.specs.Prelude.{ℕ, zero, suc, ◌+◌, ◌≤◌, Bool, true, false, ◌&&◌, ◌||◌, ltb, length}
-use Rattle.xml.specs.Bytes.{Bytes, all, is_white}
-use Rattle.xml.specs.Tags.{name_of, parts, tag_nodes}
+use Rattle.std.specs.Prelude.{ℕ, zero, suc, ◌+◌, ◌*◌, ◌≤◌, Bool, true, false, ◌&&◌, ◌||◌, ltb, length}
+use Rattle.xml.specs.Bytes.{Bytes, bytes, all, same, is_white}
 use Rattle.xml.specs.Forest.{Forest, end, elem, text, stamp, escape}
 use Rattle.keys.specs.declared.measure.Sizes.{Sizes}
 use Rattle.keys.specs.KeyList.{Path, KeyList, above}
@@ -27,9 +26,14 @@ unless false s = s
 unfoldable pub plus : Sizes → ℕ → ℕ → Sizes
 plus s n b = unless (ltb 512 (s.nodes + n) || ltb 16384 (s.bytes + b)) (sizes (s.nodes + n) (s.bytes + b))
 
--- an element's two tags more; nine attributes pass a limit
+-- "`T` elements are not counted"
+abbrev pub counted : Bool → ℕ
+counted true = 0
+counted false = 1
+
+-- an element's two tags more
 unfoldable pub plus_tags : Sizes → Bytes → Sizes
-plus_tags s n = unless (ltb 8 (length (parts 0 n))) (plus s (tag_nodes n) (length n + length (name_of n) + 5))
+plus_tags s n = plus s (counted (same n (bytes "T"))) (2 * length n + 5)
 
 abbrev pub plus_kept : Bool → Sizes → Bytes → Sizes
 plus_kept true s b = s
@@ -47,10 +51,11 @@ go_on false s f = f s
 abbrev pub onward : Sizes → (Sizes → Sizes) → Sizes
 onward s f = go_on s.over s f
 
--- s, and then the forest in an element of path p, where elements may stand d deep; an archive's `T`, which no version has, passes a limit
+-- s, and then the forest in an element of path p, where elements may stand d deep
 unfoldable pub measured : KeyList → Path → ℕ → Forest → Sizes → Sizes
 measured K p d end s = s
 measured K p d (text b r) s = onward (plus_text K p s b) (measured K p d r)
 measured K p zero (elem n k r) s = passed
-measured K p (suc d) (elem n k r) s = onward (onward (plus_tags s n) (measured K (p ▸ name_of n) d k)) (measured K p (suc d) r)
-measured K p d (stamp n k r) s = passed
+measured K p (suc d) (elem n k r) s = onward (onward (plus_tags s n) (measured K (p ▸ n) d k)) (measured K p (suc d) r)
+measured K p zero (stamp n k r) s = passed
+measured K p (suc d) (stamp n k r) s = onward (onward (plus_tags s n) (measured K (p ▸ n) d k)) (measured K p (suc d) r)

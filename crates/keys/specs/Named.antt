@@ -1,21 +1,18 @@
 -- A key list that is accepted holds names alone: those of its paths and its key names, of which a path has four at most.
 use Rattle.std.specs.Prelude.{◌≤◌, ◌≡◌, refl, Bool, not, ◌&&◌, eqb, leb, length}
-use Rattle.std.proofs.Common.{arith, ap, sym, ◌∙◌, subst, leb-true}
+use Rattle.std.proofs.Common.{arith, sym, subst, leb-true}
 use Rattle.std.proofs.Math.Bool.{true}
 use mathlib.Core.List.Memᴰ
-use mathlib.Core.List.{List, [], ◌∷◌, ◌++◌, Memᴰ, append_assoc}
+use mathlib.Core.List.{List, [], ◌∷◌, ◌++◌, Memᴰ}
 use Rattle.std.proofs.lemmas.Bool.{not-false}
 use Prim.Native.Char.{code}
 use Rattle.xml.specs.Bytes.{Bytes, all, same, distinct, split, is_name}
-use Rattle.xml.specs.BytesLaws.{same-is, same_self}
-use Rattle.xml.specs.TagLaws.{name-of}
-use Rattle.xml.specs.Truth.{by-test, clash, both, and_left, and_right, all-mem, any-mem}
+use Rattle.xml.specs.Truth.{by-test, and_left, and_right, all-mem}
 use Rattle.keys.specs.Result.{ok, r3, r4}
 use Rattle.keys.specs.ResultLaws.{bind_inv, passed, ok-inj}
-use Rattle.keys.specs.KeyList.{Path, Key, KeyList, write_key, words, key_of, in_notation, contexts_in_notation, lines_of, keys_of, same_path, path, implied, paths, rules_kept, key_list, listed, continues, above, key_names_at}
-use Rattle.keys.specs.Version.{◌▸◌, is_bare}
-use Rattle.keys.specs.KeyListLaws.{paths-mem, rules, rules-kept, above-is}
-use Rattle.keys.specs.SpellLaws.{all_append}
+use Rattle.keys.specs.KeyList.{Path, Key, KeyList, write_key, words, key_of, in_notation, contexts_in_notation, lines_of, keys_of, same_path, path, implied, rules_kept, key_list, listed, key_names_at}
+use Rattle.keys.specs.Version.{◌▸◌}
+use Rattle.keys.specs.KeyListLaws.{paths-mem, rules, rules-kept}
 use Rattle.keys.specs.PlaceLaws.{listed-mem}
 use Rattle.keys.specs.TableLaws.{last-is}
 
@@ -45,32 +42,6 @@ keys-notated (l ∷ ls) K e {k} m =
     go J h ih (Memᴰ.head p) = subst Notated (sym p) h
     go J h ih (Memᴰ.tail n) = ih n
 
-pub all_right : (P : Bytes → Bool) (a b : List Bytes) → all P (a ++ b) ≡ true → all P b ≡ true
-unfolding all
-all_right P [] b h = h
-all_right P (x ∷ a) b h = all_right P a b (and_right (P x) _ h)
-
-all_left : (P : Bytes → Bool) (a b : List Bytes) → all P (a ++ b) ≡ true → all P a ≡ true
-unfolding all
-all_left P [] b h = refl
-all_left P (x ∷ a) b h = both (and_left (P x) (all P (a ++ b)) h) (all_left P a b (and_right (P x) (all P (a ++ b)) h))
-
--- a name has no attributes
-pub name-alone : (n : Bytes) → is_name n ≡ true → is_bare n ≡ true
-unfolding is_bare
-name-alone n e = ap (same n) (name-of n e) ∙ same_self n
-
-append-more : (c : Path) (n : Bytes) (l : List Bytes) → c ++ n ∷ l ≡ c ++ n ∷ [] ++ l
-append-more c n l = simp append_assoc
-
-continues-names : (c r : Path) → continues c r ≡ true → all is_name r ≡ true → all is_name c ≡ true
-unfolding all continues
-continues-names [] r e h = refl
-continues-names (n ∷ c) [] e h = clash (sym e)
-continues-names (n ∷ c) (m ∷ r) e h =
-    both (ap is_name (same-is n m (and_left (same n m) (continues c r) e)) ∙ and_left (is_name m) (all is_name r) h)
-    (continues-names c r (and_right (same n m) (continues c r) e) (and_right (is_name m) (all is_name r) h))
-
 module _ (text : Bytes) (K : KeyList) (e : key_list text ≡ ok K) where
   line-notated : {k : Key} → Memᴰ k K → Notated k
   unfolding key_list
@@ -94,31 +65,14 @@ module _ (text : Bytes) (K : KeyList) (e : key_list text ≡ ok K) where
           let q = (last-is (path k) p t.0 n t.2).1 in
           all-mem is_name (Memᴰ.append_right k.context (Memᴰ.tail (Memᴰ.cast (sym q) t.1))) w.names
 
-  -- a path that another continues has names alone
-  path_names : {r : Path} → Memᴰ r (paths K) → all is_name r ≡ true
-  unfolding path implied all
-  path_names {r} m = let t = paths-mem K r m in go t.0 (line-notated t.1) t.2
-    where
-      context-names : (k : Key) → Notated k → all is_name (path k) ≡ true
-      context-names k w = all_left is_name (path k) k.key_names (subst (λ (z : Path). all is_name z ≡ true) (append-more k.context k.name k.key_names) w.names)
-
-      go : (k : Key) → Notated k → Memᴰ r (path k ∷ implied k) → all is_name r ≡ true
-      go k w (Memᴰ.head q) = subst (λ (z : Path). all is_name z ≡ true) (sym q) (context-names k w)
-      go k w (Memᴰ.tail o) =
-          let t = Memᴰ.of_map (λ x. path k ++ x ∷ []) k.key_names o in
-          subst (λ (z : Path). all is_name z ≡ true) t.2
-          (all_append (path k) (t.0 ∷ []) ∙ both (context-names k w) (both (all-mem is_name (Memᴰ.append_right k.context (Memᴰ.tail t.1)) w.names) refl))
-
-  -- so the last step of one above the frontiers is a name alone
-  pub above-bare : (p : Path) (n : Bytes) → above K (p ▸ n) ≡ true → is_bare n ≡ true
-  unfolding all
-  above-bare p n h =
-      let t = any-mem (continues (p ▸ n)) (paths K) (above-is K (p ▸ n) h) in
-      name-alone n (and_left (is_name n) true (all_right is_name p (n ∷ []) (continues-names (p ▸ n) t.0 t.2 (path_names t.1))))
-
   -- at most eight names
   pub listed-short : (p : Path) → listed K p ≡ true → length p ≤ 8
   listed-short p h = leb-true (length p) 8 (all-mem (λ p. leb (length p) 8) (listed-mem K p h) (rules K (rules-kept text K e)).short)
+
+pub all_right : (P : Bytes → Bool) (a b : List Bytes) → all P (a ++ b) ≡ true → all P b ≡ true
+unfolding all
+all_right P [] b h = h
+all_right P (x ∷ a) b h = all_right P a b (and_right (P x) _ h)
 
 at_names : (K : KeyList) (p : Path) → ((k : Key) → Memᴰ k K → Notated k) → (all is_name (key_names_at K p) ≡ true) × (length (key_names_at K p) ≤ 4)
 unfolding key_names_at all

@@ -8,10 +8,10 @@ use Rattle.std.proofs.Math.Seq.{length-take-le}
 use Rattle.xml.specs.Bytes.{Bytes, same}
 use Rattle.xml.specs.BytesLaws.{same-is}
 use Rattle.xml.specs.Forest.{Forest}
-use Rattle.xml.specs.Tape.{next_at, Tagged, Tape}
+use Rattle.xml.specs.Tape.{next_at, Node, Tape}
 use Rattle.model.specs.Orders.{next, cmp_l, labels, is_eq}
 use Rattle.keys.specs.KeyList.{Path, KeyList, key_names_at}
-use Rattle.keys.specs.Version.{◌▸◌, is_bare, Label, name_in, called, value_in, label, same_label}
+use Rattle.keys.specs.Version.{◌▸◌, Label, name_in, called, value_in, label, same_label}
 use Rattle.keys.specs.Table.{Table}
 use Rattle.keys.specs.Placed.{OfPlace}
 use Rattle.keys.specs.Ranks.{compare_bytes, same-compare}
@@ -30,7 +30,7 @@ KeysSame text table n own s keys src cells lo hi r =
     OfPlace text table n own
     (λ K p. (f : Forest) → Tape src cells lo hi f → r ≡ same_label (map (piece s) (take (length (key_names_at K p)) keys)) (values_of (key_names_at K p) f))
 
--- a step of the address s below the path, and an element there without attributes, with its key children
+-- a step of the address s below the path, and an element there with its key children
 pub record StepAsked (text : Bytes) (table : List ℕ) (n : ℕ) (s : Bytes) (name place : ℕ) (values src cells : List ℕ) (p : ℕ) : Type 0 where
   pub key_list : KeyList
   pub path : Path
@@ -39,8 +39,7 @@ pub record StepAsked (text : Bytes) (table : List ℕ) (n : ℕ) (s : Bytes) (na
   pub step_is : StepAs key_list s step (path ▸ name_in step) name place values
   pub called-as : Bytes
   pub kids : Forest
-  pub node : Tagged src cells p called-as
-  pub bare : is_bare called-as ≡ true
+  pub node : Node src cells p 1 called-as
   pub tape : Tape src cells (p + 1) (next_at cells p) kids
   pub once : has_keys (key_names_at key_list (path ▸ called-as)) kids ≡ true
 
@@ -48,7 +47,7 @@ pub record StepAsked (text : Bytes) (table : List ℕ) (n : ℕ) (s : Bytes) (na
 abbrev pub StepSame : Bytes → List ℕ → ℕ → Bytes → ℕ → ℕ → List ℕ → List ℕ → List ℕ → ℕ → Bool → Type 0
 StepSame text table n s name place values src cells p r =
     (K : KeyList) (q : Path) (l : Label) → Table text table n K → StepAs K s l (q ▸ name_in l) name place values
-    → (m : Bytes) (k : Forest) → Tagged src cells p m → Tape src cells (p + 1) (next_at cells p) k → r ≡ same_label l (label K q m k)
+    → (m : Bytes) (k : Forest) → Node src cells p 1 m → Tape src cells (p + 1) (next_at cells p) k → r ≡ same_label l (label K q m k)
 
 -- ---- the path of a step is its name below those above it
 pub path-to : (ls : List Label) (i : ℕ) → i < length ls → path_to ls i ≡ map name_in (take i ls) ▸ name_in (get_or ls i [])

@@ -1,14 +1,13 @@
 -- What sorting keeps: the size of a version, and that each node is in its place.
 use Rattle.std.proofs.Common.{arith, ◌∙◌}
-use Rattle.std.specs.Prelude.{◌≡◌, refl, true, false, ◌||◌, ltb}
+use Rattle.std.specs.Prelude.{◌≡◌, refl, true, false, ◌||◌}
 use Rattle.std.proofs.Math.Option.{Option, some}
 use Rattle.std.proofs.Math.ListN.{length, length-append}
 use Rattle.xml.specs.Bytes.{Bytes}
-use Rattle.xml.specs.Tags.{parts}
 use Rattle.xml.specs.Forest.{Forest, elem, write, nodes, depth}
 use Rattle.xml.specs.Tape.{size}
 use Rattle.keys.specs.KeyList.{Path, KeyList}
-use Rattle.keys.specs.Version.{◌▸◌, Label, label, crowded, too_large, misplaced, same_label, find, is_some}
+use Rattle.keys.specs.Version.{◌▸◌, Label, label, too_large, misplaced, same_label, find, is_some}
 use Rattle.xml.specs.Truth.{bool_by, or_swap}
 use Rattle.keys.specs.Sorting.{Into, here, after, Sorting, kept, empty, put, astray}
 
@@ -45,15 +44,9 @@ module _ (K : KeyList) {p : Path} {f g : Forest} (t : Sorting K p f g) where
       sorted-kept K (λ _ h. length (write h)) (λ p n k m j r. simp length-append (omega arith)) (λ p n k r s e. simp length-append (omega arith))
       (λ p n k j r e. simp length-append (omega arith)) t
 
-  sorted-crowded : crowded g ≡ crowded f
-  unfolding crowded
-  sorted-crowded =
-      sorted-kept K (λ _ h. crowded h) (λ p n k m j r. or_swap (ltb 8 (length (parts 0 n)) || crowded k) (ltb 8 (length (parts 0 m)) || crowded j) (crowded r))
-      (λ p n k r s e. rw e) (λ p n k j r e. rw e) t
-
   pub sorted-small : too_large g ≡ too_large f
   unfolding too_large
-  sorted-small = rw (sorted-depth, sorted-nodes, sorted-length, sorted-crowded)
+  sorted-small = rw (sorted-depth, sorted-nodes, sorted-length)
 
   pub sorted-placed : misplaced K p g ≡ misplaced K p f
   unfolding misplaced

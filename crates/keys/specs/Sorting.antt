@@ -2,13 +2,12 @@
 use Rattle.std.specs.Prelude.{◌≡◌, refl, Bool, true, false, not, ◌&&◌, ◌||◌}
 use Rattle.std.proofs.Common.{sym, ◌∙◌, ap}
 use mathlib.Core.Ordering.{Ordering, lt, eq, gt}
-use Rattle.xml.specs.Tags.{named_t}
-use Rattle.xml.specs.Bytes.{Bytes}
+use Rattle.xml.specs.Bytes.{Bytes, bytes, same}
 use Rattle.xml.specs.Forest.{Forest, end, elem, text, stamp}
 use Rattle.model.specs.Orders.{labels, is_lt}
-use Rattle.keys.specs.KeyList.{Path, KeyList, above}
+use Rattle.keys.specs.KeyList.{Path, KeyList, listed, above}
 use Rattle.keys.specs.Beneath.{front_ordered}
-use Rattle.keys.specs.Version.{◌▸◌, Label, label, before, misplaced, insert_by, ordered, placed}
+use Rattle.keys.specs.Version.{◌▸◌, Label, label, before, misplaced, insert_by, ordered}
 use Rattle.xml.specs.Truth.{clash, bool_by, or_left, or_right}
 
 -- the label comes before the first of the siblings, which are elements
@@ -57,12 +56,12 @@ inserted K p n k (elem m j r) e =
 
 -- an element by itself is out of place, or something in it
 abbrev pub astray : KeyList → Path → Bytes → Forest → Bool
-astray K p n k = named_t n || above K p && not (placed K p n) || misplaced K (p ▸ n) k
+astray K p n k = same n (bytes "T") || above K p && not (listed K (p ▸ n)) || misplaced K (p ▸ n) k
 
 pub misplaced-kids : (K : KeyList) (p : Path) (n : Bytes) (k r : Forest) → misplaced K p (elem n k r) ≡ false → misplaced K (p ▸ n) k ≡ false
 unfolding misplaced
 misplaced-kids K p n k r e =
-    or_right (named_t n || above K p && not (placed K p n)) (misplaced K (p ▸ n) k) (or_left (astray K p n k) (misplaced K p r) e)
+    or_right (same n (bytes "T") || above K p && not (listed K (p ▸ n))) (misplaced K (p ▸ n) k) (or_left (astray K p n k) (misplaced K p r) e)
 
 pub misplaced-rest : (K : KeyList) (p : Path) (n : Bytes) (k r : Forest) → misplaced K p (elem n k r) ≡ false → misplaced K p r ≡ false
 unfolding misplaced

@@ -5,10 +5,11 @@ use Rattle.std.proofs.Math.Path.{◌≡◌, refl, ap, ap₂}
 use Rattle.std.proofs.Math.Option.{Option, some}
 use mathlib.Core.List.{List, [], ◌∷◌, map, Memᴰ}
 use mathlib.Core.Ordering.{Ordering, lt, eq, gt, lt≢eq, gt≢eq}
+use Rattle.model.specs.Masks.{clash}
 use Rattle.model.specs.Keyed.{Tree, nil, node, slot, look, Before, Ascending, self}
 use Rattle.model.specs.Looked.{before-trans}
 use Rattle.model.specs.Orders.{labels}
-use Rattle.xml.specs.Bytes.{Bytes, any, all, same}
+use Rattle.xml.specs.Bytes.{Bytes, any, all, same, is_name}
 use Rattle.xml.specs.Forest.{Forest, end, elem, text}
 use Rattle.keys.specs.KeyList.{Path, KeyList, rules_kept, above, key_names_at}
 use Rattle.keys.specs.Version.{◌▸◌, Label, called, is_key_value, is_one_value, run_in, value_in, label, name_in}
@@ -16,15 +17,13 @@ use Rattle.keys.specs.Address.{values_in}
 use Rattle.keys.specs.Tree.{Content, inner, front, held_by, forest_of}
 use Rattle.keys.specs.Legal.{KeyChildren, Kind, Lawful, InnerContent, FrontContent, KeyContent, LawfulVersion}
 use Rattle.xml.specs.Truth.{not_so, and_both, mem-any}
-use Rattle.xml.specs.Tags.{Written}
-use Rattle.xml.specs.TagLaws.{written-some}
 use Rattle.xml.specs.BytesLaws.{same-is, same_self}
 use Rattle.keys.specs.KeyListLaws.{key-bare, front-bare}
 
 -- a label whose name is a name is that name and its values
-pub label-parts : (l : Label) → Written false (name_in l) → l ≡ name_in l ∷ values_in l
-unfolding name_in values_in
-label-parts [] e = absurd (written-some e refl)
+pub label-parts : (l : Label) → is_name (name_in l) ≡ true → l ≡ name_in l ∷ values_in l
+unfolding name_in values_in is_name
+label-parts [] e = absurd (clash e refl)
 label-parts (n ∷ vs) e = refl
 
 -- where a path has no key names, a label has no values

@@ -4,8 +4,7 @@ use Rattle.std.proofs.Math.Path.{refl}
 use Rattle.std.proofs.Common.{ap}
 use Rattle.std.proofs.Math.Bool.{true, false}
 use borrow.Author.Tests.{not-false}
-use Rattle.xml.specs.Bytes.{Bytes, all}
-use Rattle.xml.specs.Tags.{Written}
+use Rattle.xml.specs.Bytes.{Bytes, all, is_name}
 use Rattle.xml.specs.Forest.{Forest, end, elem, text, stamp, Tidy}
 use Rattle.model.specs.Keyed.{Tree, Ascending}
 use Rattle.model.specs.Orders.{labels}
@@ -48,7 +47,7 @@ module _ (K : KeyList) (rules : rules_kept K ≡ true) where
   lawful-kids true q t h a = h refl a
   lawful-kids false q t h a = tt
 
-  lawful-elem : (p : Path) (n : Bytes) (k r : Forest) → above K p ≡ true → Written false n → Tidy false k → misplaced K p (elem n k r) ≡ false → unkeyed K p (elem n k r) ≡ false
+  lawful-elem : (p : Path) (n : Bytes) (k r : Forest) → above K p ≡ true → is_name n ≡ true → Tidy false k → misplaced K p (elem n k r) ≡ false → unkeyed K p (elem n k r) ≡ false
       → Ascending labels (kids_of (above K (p ▸ n)) (keyed K (p ▸ n) k)) → LawfulVersion K (p ▸ n) (kids_of (above K (p ▸ n)) (keyed K (p ▸ n) k)) → LawfulVersion K p (keyed K p r)
       → LawfulVersion K p (keyed K p (elem n k r))
   unfolding Lawful label name_in values_in

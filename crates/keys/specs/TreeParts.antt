@@ -1,15 +1,14 @@
 -- A version's tree of labels, element by element: how high it is, and the version that it stands for.
 use Rattle.std.specs.Prelude.{◌≤◌, ◌≡◌, refl, Bool, true, false, not, ◌&&◌, ◌||◌, []}
 use Rattle.std.proofs.Common.{arith, ap, sym, ◌∙◌}
-use Rattle.xml.specs.Tags.{named_t}
-use Rattle.xml.specs.Bytes.{Bytes}
+use Rattle.xml.specs.Bytes.{Bytes, bytes, same}
 use Rattle.xml.specs.Forest.{Forest, end, elem, text, stamp, depth}
 use Rattle.model.specs.Keyed.{Tree, nil, node}
 use Rattle.model.specs.Direct.{height}
 use Rattle.model.specs.Masks.{clash}
 use Rattle.xml.specs.Truth.{bool_by, or_left}
-use Rattle.keys.specs.KeyList.{Path, KeyList, above}
-use Rattle.keys.specs.Version.{◌▸◌, Label, label, name_in, misplaced, placed}
+use Rattle.keys.specs.KeyList.{Path, KeyList, listed, above}
+use Rattle.keys.specs.Version.{◌▸◌, Label, label, name_in, misplaced}
 use Rattle.keys.specs.Tree.{Content, inner, front, keyed, forest_of}
 use Rattle.keys.specs.Legal.{RootOrNone, LegalVersion}
 
@@ -62,7 +61,7 @@ four-false false true c d e = absurd (clash refl e)
 four-false true b c d e = absurd (clash refl e)
 
 pub placed-elem : (K : KeyList) (p : Path) (n : Bytes) (k r : Forest) → misplaced K p (elem n k r) ≡ false
-    → (named_t n ≡ false) × (above K p && not (placed K p n) ≡ false) × (misplaced K (p ▸ n) k ≡ false) × (misplaced K p r ≡ false)
+    → (same n (bytes "T") ≡ false) × (above K p && not (listed K (p ▸ n)) ≡ false) × (misplaced K (p ▸ n) k ≡ false) × (misplaced K p r ≡ false)
 unfolding misplaced
 placed-elem K p n k r e = four-false _ _ _ _ e
 

@@ -1,7 +1,6 @@
 -- Version texts: what is dropped, refusals 5 to 9, labels and their order, and the version that is kept.
 use Rattle.std.specs.Prelude.{ℕ, ◌+◌, ◌≡◌, refl, Bool, true, false, not, ◌&&◌, ◌||◌, List, [], ◌∷◌, ◌++◌, map, eqb, leb, ltb, length}
 use Rattle.std.proofs.Math.Option.{Option, none, some}
-use Rattle.xml.specs.Tags.{name_of, parts, named_t}
 use Rattle.xml.specs.Bytes.{Bytes, bytes, all, same, is_white, is_value, line_ends}
 use Rattle.keys.specs.Result.{Result, refused, ok, ◌>>=◌, ◌>>◌, refuse, r5, r6, r7, r8, r9}
 use Rattle.xml.specs.Forest.{Forest, end, elem, text, stamp, write, nodes, depth}
@@ -15,42 +14,24 @@ infixl 66 ◌▸◌
 abbrev pub ◌▸◌ : Path → Bytes → Path
 p ▸ n = p ++ n ∷ []
 
--- In each function below, p is the path of the element that holds the forest directly: [] for the root. n is a tag: a name, which
--- attributes may follow. Where nothing is refused for 7, every tag of a path of the list is a name alone.
+-- In each function below, p is the path of the element that holds the forest directly: [] for the root.
 
--- "Directly in an element whose path is listed and no frontier, a run of white space is dropped". The path is that of the names, whatever
--- attributes an element has: above a frontier they are 7, and 6 goes before
+-- "Directly in an element whose path is listed and no frontier, a run of white space is dropped"
 unfoldable pub drop_white : KeyList → Path → Forest → Forest
 drop_white K p end = end
-drop_white K p (elem n k r) = elem n (drop_white K (p ▸ name_of n) k) (drop_white K p r)
+drop_white K p (elem n k r) = elem n (drop_white K (p ▸ n) k) (drop_white K p r)
 drop_white K p (text b r) = elim (above K p && all is_white b) [ true ↦ drop_white K p r | false ↦ text b (drop_white K p r) ]
 drop_white K p (stamp t k r) = stamp t (drop_white K p k) (drop_white K p r)
 
--- "at most eight on an element": some element has more attributes
-unfoldable pub crowded : Forest → Bool
-crowded end = false
-crowded (elem n k r) = ltb 8 (length (parts 0 n)) || crowded k || crowded r
-crowded (text b r) = crowded r
-crowded (stamp t k r) = crowded k || crowded r
-
--- 6: "version deeper than 16, over 512 nodes, or its written form over 16,384 bytes"; of attributes "a ninth is 6"
+-- 6: "version deeper than 16, over 512 nodes, or its written form over 16,384 bytes"
 unfoldable pub too_large : Forest → Bool
-too_large f = ltb 16 (depth f) || ltb 512 (nodes f) || ltb 16384 (length (write f)) || crowded f
+too_large f = ltb 16 (depth f) || ltb 512 (nodes f) || ltb 16384 (length (write f))
 
--- a tag that is a name alone
-unfoldable pub is_bare : Bytes → Bool
-is_bare n = same n (name_of n)
-
--- the tag has a path of the list, and no attributes
-abbrev pub placed : KeyList → Path → Bytes → Bool
-placed K p n = listed K (p ▸ n) && is_bare n
-
--- 7: "a path not in the list above or at a frontier, refused text, or the name `T` anywhere"; an attribute "at or above a frontier, or
--- named `T`"
+-- 7: "a path not in the list above or at a frontier, refused text, or the name `T` anywhere"
 unfoldable pub misplaced : KeyList → Path → Forest → Bool
 misplaced K p end = false
 misplaced K p (elem n k r) =
-    named_t n || above K p && not (placed K p n) || misplaced K (p ▸ n) k || misplaced K p r
+    same n (bytes "T") || above K p && not (listed K (p ▸ n)) || misplaced K (p ▸ n) k || misplaced K p r
 misplaced K p (text b r) = above K p || misplaced K p r
 misplaced K p (stamp t k r) = true
 
@@ -176,5 +157,5 @@ version K s = do
   ok (ordered K [] v)
 
 unfoldable pub version_compute : Unit {0}
-unfolding read_compute keys_compute labels_compute drop_white crowded too_large is_bare misplaced called is_key_value is_one_value unkeyed run_in value_in label name_in same_label before find is_some doubled insert_by ordered parsed read_version version
+unfolding read_compute keys_compute labels_compute drop_white too_large misplaced called is_key_value is_one_value unkeyed run_in value_in label name_in same_label before find is_some doubled insert_by ordered parsed read_version version
 version_compute = tt

@@ -31,8 +31,8 @@ starts : {a : Bool} {s : Bytes} {f : Forest} → Content a s f → Root f → (r
 unfolding bytes
 starts nothing o = absurd o
 starts (run c e b n x) o = absurd o
-starts (element {w = w} {n = n} {s = s} {u = u} e x y) o = (w ++ bytes ">" ++ s ++ bytes "</" ++ n ++ bytes ">" ++ u, refl)
-starts (lone {w = w} {u = u} e x) o = (w ++ bytes "/>" ++ u, refl)
+starts (element {n = n} {s = s} {u = u} e x y) o = (n ++ bytes ">" ++ s ++ bytes "</" ++ n ++ bytes ">" ++ u, refl)
+starts (lone {n = n} {u = u} e x) o = (n ++ bytes "/>" ++ u, refl)
 starts (times {t = t} {s = s} {u = u} i e x y) o = (bytes "T t=\"" ++ t ++ bytes "\">" ++ s ++ bytes "</T>" ++ u, refl)
 
 black-inside : (w : Bytes) (b : ℕ) (s : Bytes) → is_white b ≡ false → all is_white (w ++ b ∷ s) ≡ false

@@ -1,21 +1,18 @@
 -- The written form of a version is itself a legal text, of that version.
-use Rattle.std.specs.Prelude.{◌≤◌, ◌≡◌, refl, true, false, ◌&&◌, ◌||◌, [], ltb, length}
-use Rattle.std.proofs.Common.{sym, ◌∙◌, ap, subst, ap₂, ltb-false}
-use Rattle.keys.specs.TreeParts.{placed-elem}
-use Rattle.keys.specs.DropLaws.{drop-kids, placed-bare}
-use Rattle.xml.specs.Bytes.{Bytes, all, is_white, line_ends}
-use Rattle.xml.specs.Tags.{Written, name_of}
-use Rattle.xml.specs.Forest.{Forest, end, elem, text, stamp, write, nodes, depth, NotText, Tidy}
+use Rattle.std.specs.Prelude.{◌≡◌, refl, true, false, ◌&&◌, []}
+use Rattle.std.proofs.Common.{sym, ◌∙◌, ap, subst}
+use Rattle.xml.specs.Bytes.{Bytes, all, is_white, is_name, line_ends}
+use Rattle.xml.specs.Forest.{Forest, end, elem, text, stamp, write, NotText, Tidy}
 use Rattle.xml.specs.Read.{Outcome, whole, broken}
 use Rattle.xml.specs.Lines.{write-lines, lines-no-return, no-return-self}
 use Rattle.keys.specs.Result.{ok, r6, r7, r8, r9}
 use Rattle.keys.specs.KeyList.{Path, KeyList, above}
-use Rattle.keys.specs.Version.{◌▸◌, drop_white, crowded, too_large, misplaced, unkeyed, doubled, insert_by, ordered, parsed, read_version, version}
+use Rattle.keys.specs.Version.{◌▸◌, drop_white, too_large, misplaced, unkeyed, doubled, insert_by, ordered, parsed, read_version, version}
 use Rattle.keys.specs.Legal.{RootOrNone, LegalVersion}
 use Rattle.keys.specs.VersionRead.{read_version-tidy, read_version-write, read_version-same}
 use Rattle.xml.specs.Truth.{clash, bool_by, or_left, or_right}
 use Rattle.keys.specs.ResultLaws.{refused-ok, ok-inj, bind_inv, passed}
-use Rattle.keys.specs.Sorting.{Into, here, after, Sorting, kept, empty, put, sorted}
+use Rattle.keys.specs.Sorting.{Into, here, after, Sorting, kept, empty, put, misplaced-kids, misplaced-rest, sorted}
 use Rattle.keys.specs.SortedKept.{sorted-small, sorted-placed}
 use Rattle.keys.specs.SortedKeys.{sorted-keyed}
 use Rattle.keys.specs.SortedOnce.{sorted-single, sorted-again}
@@ -24,7 +21,7 @@ use Rattle.keys.specs.SortedOnce.{sorted-single, sorted-again}
 drop-tidy : (K : KeyList) (p : Path) (f : Forest) → Tidy false f → Tidy false (drop_white K p f) × (NotText f → NotText (drop_white K p f))
 unfolding drop_white
 drop-tidy K p end h = (tt, λ t. tt)
-drop-tidy K p (elem n k r) h = ((h.0, (drop-tidy K (p ▸ name_of n) k h.1).0, (drop-tidy K p r h.2).0), λ t. tt)
+drop-tidy K p (elem n k r) h = ((h.0, (drop-tidy K (p ▸ n) k h.1).0, (drop-tidy K p r h.2).0), λ t. tt)
 drop-tidy K p (stamp t k r) h = clash (sym h.0)
 drop-tidy K p (text b r) h =
     let i = drop-tidy K p r h.3 in
@@ -46,12 +43,10 @@ drop-placed K p end m = refl
 drop-placed K p (stamp t k r) m = clash m
 drop-placed K p (text b r) m =
     rw (or_left (above K p) (misplaced K p r) m, drop_white) (ap (text b) (drop-placed K p r (or_right (above K p) (misplaced K p r) m)))
-drop-placed K p (elem n k r) m =
-    let w = placed-elem K p n k r m in
-    ap₂ (elem n) (drop-kids K p n k (placed-bare K p n w.1) ∙ drop-placed K (p ▸ n) k w.2) (drop-placed K p r w.3)
+drop-placed K p (elem n k r) m = rw (drop-placed K (p ▸ n) k (misplaced-kids K p n k r m), drop-placed K p r (misplaced-rest K p n k r m))
 
 -- ---- sorted
-into-tidy : {K : KeyList} {p : Path} {n : Bytes} {k f g : Forest} → Written false n → Tidy false k → Into K p n k f g → Tidy false f → Tidy false g
+into-tidy : {K : KeyList} {p : Path} {n : Bytes} {k f g : Forest} → is_name n ≡ true → Tidy false k → Into K p n k f g → Tidy false f → Tidy false g
 into-tidy h t (here a) g = (h, t, g)
 into-tidy h t (after a i) g = (g.0, g.1, into-tidy h t i g.2)
 
@@ -100,17 +95,6 @@ pub same_lines : (K : KeyList) (s t : Bytes) → line_ends s ≡ line_ends t →
 same_lines K s t e = sym (version-lines K s) ∙ ap (version K) e ∙ version-lines K t
 
 -- ---- versions that are legal
--- what 6 leaves
-pub small-parts : (f : Forest) → too_large f ≡ false → (depth f ≤ 16) × (nodes f ≤ 512) × (length (write f) ≤ 16384)
-unfolding too_large
-small-parts f e =
-    let h3 = or_left (ltb 16 (depth f) || ltb 512 (nodes f) || ltb 16384 (length (write f))) (crowded f) e in
-    let h2 = or_left (ltb 16 (depth f) || ltb 512 (nodes f)) (ltb 16384 (length (write f))) h3 in (
-      ltb-false 16 (depth f) (or_left (ltb 16 (depth f)) (ltb 512 (nodes f)) h2),
-      ltb-false 512 (nodes f) (or_right (ltb 16 (depth f)) (ltb 512 (nodes f)) h2),
-      ltb-false 16384 (length (write f)) (or_right (ltb 16 (depth f) || ltb 512 (nodes f)) (ltb 16384 (length (write f))) h3),
-    )
-
 -- the version of a text is
 pub version-legal : (K : KeyList) (s : Bytes) (v : Forest) → version K s ≡ ok v → LegalVersion K v
 unfolding version

@@ -3,7 +3,7 @@ use Rattle.std.specs.Prelude.{ℕ, ◌+◌, ◌%◌, ◌<◌, ◌≤◌, ◌≡�
 use Rattle.std.proofs.Common.{ap, sym, ◌∙◌, arith}
 use Rattle.xml.specs.Bytes.{Bytes}
 use Rattle.xml.specs.Forest.{Forest, end, elem, text, stamp, join}
-use Rattle.xml.specs.Tape.{head_at, next_at, Tagged, Tape, at-end, at-text, at-elem, at-stamp, Valid}
+use Rattle.xml.specs.Tape.{head_at, next_at, Node, Tape, at-end, at-text, at-elem, at-stamp, Valid}
 use Rattle.xml.specs.TapeLaws.{bytes_at, Front, front, split, inner-node, tape-le, tape-none}
 use Rattle.keys.specs.KeyList.{Path, KeyList}
 use Rattle.keys.specs.Version.{◌▸◌}
@@ -35,21 +35,16 @@ module _ {text : Bytes} {table : List ℕ} {n place : ℕ} {src cells : List ℕ
   pub walk-next : {p q : ℕ} → Walk text table n place src cells p q → p < q → Walk text table n place src cells (next_at cells p) q
   walk-next w l = let s = split w.valid.tape l in record { placed = w.placed; valid = record { forest = s.rest; tape = s.after } }
 
-  -- what an element holds, at the place of a name below
-  pub walk-named : {p below : ℕ} (name : Bytes) → Walk text table n place src cells p (next_at cells p) → p < next_at cells p → (head_at cells p % 4 ≡ 0 → ⊥)
-      → OfPlace text table n place (λ K q. below ≡ place_of K (q ▸ name)) → Walk text table n below src cells (p + 1) (next_at cells p)
-  walk-named name w l k h =
+  -- what an element holds, at the place below
+  pub walk-kids : {p below : ℕ} → Walk text table n place src cells p (next_at cells p) → p < next_at cells p → (head_at cells p % 4 ≡ 0 → ⊥)
+      → OfPlace text table n place (λ K q. below ≡ place_of K (q ▸ bytes_at src cells p)) → Walk text table n below src cells (p + 1) (next_at cells p)
+  walk-kids {p} w l k h =
       let a = w.placed in
       let i = inner-node w.valid.tape l k in
       record {
-        placed = record { key_list = a.key_list; path = a.path ▸ name; table = a.table; place_is = sym (h a.key_list a.path a.table a.place_is) };
+        placed = record { key_list = a.key_list; path = a.path ▸ bytes_at src cells p; table = a.table; place_is = sym (h a.key_list a.path a.table a.place_is) };
         valid = record { forest = i.kids; tape = i.tape };
       }
-
-  -- at the place of its own bytes
-  pub walk-kids : {p below : ℕ} → Walk text table n place src cells p (next_at cells p) → p < next_at cells p → (head_at cells p % 4 ≡ 0 → ⊥)
-      → OfPlace text table n place (λ K q. below ≡ place_of K (q ▸ bytes_at src cells p)) → Walk text table n below src cells (p + 1) (next_at cells p)
-  walk-kids {p} w l k h = walk-named (bytes_at src cells p) w l k h
 
 -- a loop on its way: the whole answer is what is to be said of the nodes p to q
 pub record Going {A : Type 0} (src cells : List ℕ) (p q : ℕ) (whole : A) (of : Forest → A) : Type 0 where
@@ -80,7 +75,7 @@ pub record Parted (src cells : List ℕ) (p q : ℕ) (f : Forest) : Type 0 where
   pub name : Bytes
   pub kids : Forest
   pub rest : Forest
-  pub node : Tagged src cells p name
+  pub node : Node src cells p 1 name
   pub inner : Tape src cells (p + 1) (next_at cells p) kids
   pub after : Tape src cells (next_at cells p) q rest
   pub is : f ≡ elem name kids rest
@@ -105,7 +100,7 @@ module _ {A : Type 0} {src cells : List ℕ} (of : Forest → A) {p q : ℕ} {wh
       go : {g : Forest} → Tape src cells p q g → whole ≡ of g → Going src cells (next_at cells p) q whole of
       go (at-end e) i = absurd (omega arith)
       go (at-text {b = b} {r = r} n u e t) i = record { rest = r; tape = rw e t; same = i ∙ over b r }
-      go (at-elem n k t) i = absurd (h n.node.kind-is)
+      go (at-elem n k t) i = absurd (h n.kind-is)
       go (at-stamp {t = m} {k = k} {r = r} n j t) i = record { rest = r; tape = t; same = i ∙ past m k r }
 
 -- the whole version, above the root

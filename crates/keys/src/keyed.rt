@@ -1,12 +1,12 @@
 // Refusal 8: a key child that is missing, repeated or illegal. Asked once 6 does not apply.
-ghost use Rattle.std.specs.Prelude.{◌≡◌, true, [], ◌<◌, ◌≤◌, length};
+ghost use Rattle.std.specs.Prelude.{◌≡◌, [], ◌<◌, ◌≤◌, length};
 ghost use Rattle.std.proofs.Math.Seq.{slice};
-ghost use Rattle.xml.specs.Bytes.{is_value, is_name};
+ghost use Rattle.xml.specs.Bytes.{is_value};
 ghost use Rattle.xml.specs.Forest.{Forest};
 ghost use Rattle.xml.specs.Tape.{next_at, Tape, Valid};
 ghost use Rattle.keys.specs.Version.{drop_white, unkeyed, called, is_key_value, is_one_value};
 ghost use Rattle.keys.specs.Walks.{Walk, OfNodes, OfVersion};
-ghost use Rattle.keys.specs.Strays.{lacking};
+ghost use Rattle.keys.specs.Strays.{keyless, lacking};
 
 use crate::label::find_key;
 use crate::places::{child, is_above, key_count, key_name};
@@ -52,7 +52,7 @@ pub fn is_key_value(src: &[u8], tape: &[u32], lo: usize, hi: usize) -> bool
     is_value(src, v.start, v.end)
 }
 
-// Of the siblings lo to hi, just one element has the name text[a..e] for a tag, and it holds a key value.
+// Of the siblings lo to hi, just one element has the name text[a..e], and it holds a key value.
 pub fn has_key(
     src: &[u8],
     tape: &[u32],
@@ -62,7 +62,7 @@ pub fn has_key(
     a: usize,
     e: usize,
 ) -> bool
-    requires { Valid src.now tape.now lo hi × (a ≤ e) × (e ≤ length text.now) × (is_name (slice a e text.now) ≡ true) }
+    requires { Valid src.now tape.now lo hi × (a ≤ e) × (e ≤ length text.now) }
     ensures { (f : Forest) → Tape src.now tape.now lo hi f → result ≡ is_one_value (called (slice a e text.now) f) }
 {
     let p = find_key(text, a, e, src, tape, lo, hi);
@@ -115,7 +115,7 @@ fn unkeyed_node(
 ) -> bool
     requires { (p < next_at tape.now p) × Walk text.now table.now n place src.now tape.now p (next_at tape.now p) }
     ensures { OfNodes text.now table.now n place src.now tape.now p (next_at tape.now p)
-        (λ K q f. result ≡ unkeyed K q f) }
+        (λ K q f. result ≡ keyless K q f) }
 {
     let v = view_at(tape, p);
     if v.kind != 1 {
@@ -144,7 +144,7 @@ fn unkeyed_content(
     hi: usize,
 ) -> bool
     requires { Walk text.now table.now n place src.now tape.now lo hi }
-    ensures { OfNodes text.now table.now n place src.now tape.now lo hi (λ K q f. result ≡ unkeyed K q f) }
+    ensures { OfNodes text.now table.now n place src.now tape.now lo hi (λ K q f. result ≡ keyless K q f) }
 {
     let mut p = lo;
     while p < hi {

@@ -1,7 +1,6 @@
 // Labels: an element's name and its key values, compared with those of another, which may be of another text.
-ghost use Rattle.std.specs.Prelude.{◌≡◌, true, ◌+◌, ◌≤◌, length};
+ghost use Rattle.std.specs.Prelude.{◌≡◌, ◌+◌, ◌≤◌, length};
 ghost use Rattle.std.proofs.Math.Seq.{slice};
-ghost use Rattle.xml.specs.Bytes.{is_name};
 ghost use Rattle.xml.specs.Forest.{Forest};
 ghost use Rattle.xml.specs.Tape.{Tape, Valid};
 ghost use Rattle.keys.specs.Version.{called};
@@ -41,7 +40,7 @@ pub fn compare_bytes(s: &[u8], a: usize, e: usize, t: &[u8], b: usize, d: usize)
     1
 }
 
-// The first of the nodes lo to hi that is an element with the name text[a..e] for a tag, or hi.
+// The first of the nodes lo to hi that is an element named text[a..e], or hi.
 pub fn find_key(
     text: &[u8],
     a: usize,
@@ -51,7 +50,7 @@ pub fn find_key(
     lo: usize,
     hi: usize,
 ) -> usize
-    requires { (a ≤ e) × (e ≤ length text.now) × (is_name (slice a e text.now) ≡ true) × Valid src.now tape.now lo hi }
+    requires { (a ≤ e) × (e ≤ length text.now) × Valid src.now tape.now lo hi }
     ensures { (f : Forest) → Tape src.now tape.now lo hi f
         → KeyAt src.now tape.now (slice a e text.now) hi result (called (slice a e text.now) f) }
 {

@@ -1,4 +1,6 @@
 // Key lists, addresses and legal versions. The definitions and their laws are in specs/.
+#![tactic(auto)]
+
 pub mod address;
 pub mod arrange;
 pub mod contexts;

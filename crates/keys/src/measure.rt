@@ -4,20 +4,16 @@ ghost use Rattle.std.specs.Prelude.{◌≡◌, false, ◌&&◌, [], ◌*◌, ◌
 ghost use Rattle.std.proofs.Math.Seq.{slice};
 ghost use Rattle.xml.specs.Bytes.{Bytes, all, is_white};
 ghost use Rattle.xml.specs.Forest.{Tidy};
-ghost use Rattle.xml.specs.Read.{unescape, tag_of};
-ghost use Rattle.xml.specs.TagParts.{IsTag};
-ghost use Rattle.xml.specs.Tags.{name_of};
+ghost use Rattle.xml.specs.Read.{unescape};
 ghost use Rattle.xml.specs.Tape.{next_at};
 ghost use Rattle.keys.specs.KeyList.{above};
-ghost use Rattle.keys.specs.Version.{◌▸◌, drop_white, too_large};
-ghost use Rattle.keys.specs.Table.{place_of};
-ghost use Rattle.keys.specs.Placed.{Placed, OfPlace};
+ghost use Rattle.keys.specs.Version.{drop_white, too_large};
+ghost use Rattle.keys.specs.Placed.{OfPlace};
 ghost use Rattle.keys.specs.Walks.{Walk, OfNodes, OfVersion};
 ghost use Rattle.keys.specs.Measure.{Within, passed, plus, plus_tags, plus_text, measured};
 
 use crate::places::{child, is_above};
 use xml::compare::{is_white, same_bytes, text_len};
-use xml::tag::{is_bare, name_end, tag_sizes};
 use xml::tape::view_at;
 
 // What a walk has met so far: so many nodes and bytes, or more of something than a version may have.
@@ -41,7 +37,7 @@ fn over() -> Sizes
 
 // So many nodes and bytes more.
 fn add(s: Sizes, nodes: usize, bytes: usize) -> Sizes
-    requires { Within s × (nodes ≤ 9) × (bytes ≤ 2 ^ 32) }
+    requires { Within s × (nodes ≤ 1) × (bytes ≤ 2 ^ 32) }
     ensures { result ≡ plus s nodes bytes }
 {
     if s.nodes + nodes > 512 {
@@ -57,26 +53,11 @@ fn add(s: Sizes, nodes: usize, bytes: usize) -> Sizes
     }
 }
 
-// The two tags of an element with attributes more, whose start tag is spelled by `tag`; nine attributes pass a limit.
-fn add_attributed(tag: &[u8], s: Sizes) -> Sizes
-    requires { IsTag tag.now × (length tag.now ≤ 32768) × Within s }
-    ensures { result ≡ plus_tags s (tag_of tag.now) }
-{
-    let t = tag_sizes(tag);
-    if 8 < t.attributes {
-        return over();
-    }
-    add(s, t.nodes, t.bytes + t.name + 5)
-}
-
-// The two tags of an element more, whose start tag is spelled by src[a..e]: most often a name alone.
+// The two tags of an element more, whose name is src[a..e].
 fn add_tags(src: &[u8], a: usize, e: usize, s: Sizes) -> Sizes
-    requires { (a ≤ e) × (e ≤ length src.now) × (e - a ≤ 32768) × IsTag (slice a e src.now) × Within s }
-    ensures { result ≡ plus_tags s (tag_of (slice a e src.now)) }
+    requires { (a ≤ e) × (e ≤ length src.now) × (e - a ≤ 32768) × Within s }
+    ensures { result ≡ plus_tags s (slice a e src.now) }
 {
-    if !is_bare(&src[a..e]) {
-        return add_attributed(&src[a..e], s);
-    }
     if same_bytes(src, a, e, b"T", 0, 1) {
         return add(s, 0, 2 * (e - a) + 5);
     }
@@ -113,23 +94,6 @@ fn add_text(
     add(s, 1, text_len(src, a, e))
 }
 
-// The place of an element below a place, by the name in its start tag, which src[a..e] spells.
-fn named_child(
-    text: &[u8],
-    table: &[u32],
-    n: usize,
-    place: usize,
-    src: &[u8],
-    a: usize,
-    e: usize,
-) -> usize
-    requires { Placed text.now table.now n place × (a ≤ e) × (e ≤ length src.now) × (e - a ≤ 32768) × IsTag (slice a e src.now) }
-    ensures { OfPlace text.now table.now n place (λ K p. result ≡ place_of K (p ▸ name_of (tag_of (slice a e src.now)))) }
-{
-    let count = name_end(&src[a..e]);
-    child(text, table, n, place, src, a, a + count)
-}
-
 // The node p more, in an element at a place, where elements may stand `depth` deep.
 #[cycle(measure_content_measure_node)]
 fn measure_node(
@@ -151,9 +115,6 @@ fn measure_node(
     if v.kind == 0 {
         return add_text(table, n, place, src, v.start, v.end, s);
     }
-    if v.kind != 1 {
-        return over();
-    }
     if depth == 0 {
         return over();
     }
@@ -161,7 +122,7 @@ fn measure_node(
     if t.over {
         return t;
     }
-    let below = named_child(text, table, n, place, src, v.start, v.end);
+    let below = child(text, table, n, place, src, v.start, v.end);
     let d = depth - 1;
     measure_content(text, table, n, below, src, tape, p + 1, v.next, d, t)
 }

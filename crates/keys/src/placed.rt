@@ -1,10 +1,7 @@
-// Refusal 7: a path not in the list or an attribute above or at a frontier, refused text, or the name `T` anywhere. Asked once 6 does
-// not apply.
-ghost use Rattle.std.specs.Prelude.{◌≡◌, [], ◌*◌, ◌-◌, ◌<◌, ◌≤◌, length};
+// Refusal 7: a path not in the list above or at a frontier, refused text, or the name `T` anywhere. Asked once 6 does not apply.
+ghost use Rattle.std.specs.Prelude.{◌≡◌, [], ◌*◌, ◌<◌, ◌≤◌, length};
 ghost use Rattle.std.proofs.Math.Seq.{slice};
 ghost use Rattle.xml.specs.Bytes.{Bytes};
-ghost use Rattle.xml.specs.Read.{tag_of};
-ghost use Rattle.xml.specs.TagParts.{IsTag};
 ghost use Rattle.xml.specs.Tape.{next_at};
 ghost use Rattle.keys.specs.Version.{◌▸◌, drop_white, misplaced};
 ghost use Rattle.keys.specs.Table.{place_of};
@@ -13,12 +10,10 @@ ghost use Rattle.keys.specs.Walks.{Walk, OfNodes, OfVersion};
 ghost use Rattle.keys.specs.Strays.{astray, strange};
 
 use crate::places::{child, is_above};
-use xml::compare::is_white;
-use xml::tag::named_t;
+use xml::compare::{is_white, same_bytes};
 use xml::tape::view_at;
 
-// An element whose tag src[a..e] spells, in one at a place, may not stand there; the place of these bytes below it is `below`: no place, if
-// they are more than a name.
+// An element with the name src[a..e], in one at a place, may not stand there; its own place is `below`.
 fn is_strange(
     table: &[u32],
     n: usize,
@@ -28,11 +23,11 @@ fn is_strange(
     a: usize,
     e: usize,
 ) -> bool
-    requires { (2 * n ≤ length table.now) × (a ≤ e) × (e ≤ length src.now) × (e - a ≤ 32768) × IsTag (slice a e src.now) }
+    requires { (2 * n ≤ length table.now) × (a ≤ e) × (e ≤ length src.now) }
     ensures { (text : Bytes) → OfPlace text table.now n place
-        (λ K p. place_of K (p ▸ slice a e src.now) ≡ below → result ≡ strange K p (tag_of (slice a e src.now))) }
+        (λ K p. place_of K (p ▸ slice a e src.now) ≡ below → result ≡ strange K p (slice a e src.now)) }
 {
-    if named_t(&src[a..e]) {
+    if same_bytes(src, a, e, b"T", 0, 1) {
         return true;
     }
     if !is_above(table, n, place) {

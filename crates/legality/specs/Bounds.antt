@@ -3,26 +3,24 @@ use Rattle.std.specs.Prelude.{ℕ, zero, suc, ◌+◌, ◌*◌, ◌-◌, ◌/◌
 use Rattle.std.proofs.Common.{arith, sym, ◌∙◌, length-append}
 use Rattle.std.proofs.Math.Path.{refl, ap}
 use Rattle.std.proofs.Math.Bool.{not, and-false, or-false}
-use borrow.Author.Tests.{le-leb, le-ltb, not-true}
+use borrow.Author.Tests.{le-leb, not-true}
 use Rattle.xml.specs.Bytes.{Bytes, bytes, all}
 use Rattle.xml.specs.Forest.{Forest, end, elem, text, stamp, join, write, escape, nodes, depth}
-use Rattle.xml.specs.Tags.{name_of, parts}
-use Rattle.xml.specs.Read.{tag_of}
 use Rattle.xml.specs.Signs.{spelt}
 use Rattle.xml.specs.Tape.{head_at, next_at, Tape, Valid, at-end, at-text, at-elem, at-stamp}
 use Rattle.xml.specs.TapeLaws.{bytes_at, OneRun, Front, tape-le, tape-none, tape-one, tape-join, front, split, inner-node, text-node}
 use Rattle.xml.specs.Complete.{join-end}
-use Rattle.xml.specs.Truth.{by-test, clash, and_both, neither, or-second}
+use Rattle.xml.specs.Truth.{by-test, clash, and_both, or-second}
 use Rattle.timestamp.specs.Times.{belongs, up_from, always}
 use Rattle.versions.specs.Archive.{pick}
 use Rattle.versions.specs.Walk.{is_sole, siblings_legal, all_small}
 use Rattle.versions.specs.Sizes.{one, when_in, nodes-join, write-join}
 use Rattle.versions.specs.Small.{LegalInside}
 use Rattle.versions.specs.VersionText.{pick-join}
-use Rattle.keys.specs.Version.{crowded, too_large}
-use Rattle.legality.specs.Measured.{one-parts, raw-most, when-all}
-use Rattle.legality.specs.Going.{text-short}
-use Rattle.legality.specs.Peaks.{depth-pick, depth-join, crowded-pick, crowded-join}
+use Rattle.keys.specs.Version.{too_large}
+use Rattle.legality.specs.Measured.{one-most, when-all}
+use Rattle.legality.specs.Going.{text-short, name-length}
+use Rattle.legality.specs.Layered.{depth-pick, depth-join}
 use Rattle.legality.specs.Parted.{has_content, Parted, has_join, parted-join, parted-last, siblings-parted}
 use Rattle.legality.specs.SmallLaws.{not-large}
 
@@ -33,17 +31,16 @@ content_node (text b r) = false
 content_node (elem m k r) = false
 content_node (stamp s k r) = not (is_sole k)
 
--- the forest is at most so deep and no element has a ninth attribute, and version v has at most so many nodes and bytes of it
+-- the forest is at most so deep, and version v has at most so many nodes and bytes of it
 pub record Bounded (v : ℕ) (f : Forest) (left n b : ℕ) : Type 0 where
   pub flat : depth f ≤ left
-  pub uncrowded : crowded f ≡ false
   pub nodes-in : nodes (pick v f) ≤ n
   pub bytes-in : length (write (pick v f)) ≤ b
 
 -- so has each version of the nodes lo to hi
 pub record Most (src cells : List ℕ) (lo hi left n b : ℕ) : Type 0 where
-  pub few : n ≤ 196640 * (hi - lo)
-  pub short : b ≤ 196640 * (hi - lo)
+  pub few : n ≤ hi - lo
+  pub short : b ≤ 163840 * (hi - lo)
   pub each : (f : Forest) → Tape src cells lo hi f → (v : ℕ) → Parted v f → Bounded v f left n b
 
 -- what a walk answers in one number, the nodes times 2 ^ 32 and the bytes: 513 nodes and more say nothing
@@ -91,27 +88,24 @@ unfolding has_content
 content-there v s k d e = rw (d, e) refl
 
 stamp-bounded : (v : ℕ) (s : Bytes) {k : Forest} {left n b : ℕ} → Bounded v k left n b → Bounded v (stamp s k end) left n b
-unfolding depth crowded
+unfolding depth
 stamp-bounded v s {k} h =
-    let c : crowded (stamp s k end) ≡ false = neither h.uncrowded refl in
     by-test (belongs v s)
-    (λ e. record { flat = omega (arith, h.flat); uncrowded = c; nodes-in = rw (pick-has v s k e) h.nodes-in; bytes-in = rw (pick-has v s k e) h.bytes-in })
-    (λ e. record { flat = omega (arith, h.flat); uncrowded = c; nodes-in = omega (arith, nodes-lacking v s k e); bytes-in = omega (arith, bytes-lacking v s k e) })
+    (λ e. record { flat = omega (arith, h.flat); nodes-in = rw (pick-has v s k e) h.nodes-in; bytes-in = rw (pick-has v s k e) h.bytes-in })
+    (λ e. record { flat = omega (arith, h.flat); nodes-in = omega (arith, nodes-lacking v s k e); bytes-in = omega (arith, bytes-lacking v s k e) })
 
-elem-bounded : (v : ℕ) (m : Bytes) {k : Forest} {left n b : ℕ} → length (parts 0 m) ≤ 8 → Bounded v k left n b
-    → Bounded v (elem m k end) (left + 1) (1 + length (parts 0 m) + n) (length m + length (name_of m) + 5 + b)
-unfolding depth crowded pick nodes write one bytes
-elem-bounded v m {k} c h =
+elem-bounded : (v : ℕ) (m : Bytes) {k : Forest} {left n b : ℕ} → Bounded v k left n b → Bounded v (elem m k end) (left + 1) (1 + n) (2 * length m + 5 + b)
+unfolding depth pick nodes write one bytes
+elem-bounded v m {k} h =
     record {
       flat = omega (arith, h.flat);
-      uncrowded = neither (neither (le-ltb 8 (length (parts 0 m)) c) h.uncrowded) refl;
-      nodes-in = omega (arith, one-parts m, h.nodes-in);
+      nodes-in = omega (arith, one-most m, h.nodes-in);
       bytes-in = simp length-append (omega (arith, h.bytes-in));
     }
 
 text-bounded : (v : ℕ) (b : Bytes) {left n : ℕ} → length (escape b) ≤ n → Bounded v (text b end) left 1 n
-unfolding depth crowded pick nodes write
-text-bounded v b h = record { flat = omega arith; uncrowded = refl; nodes-in = omega arith; bytes-in = rw length-append (omega (arith, h)) }
+unfolding depth pick nodes write
+text-bounded v b h = record { flat = omega arith; nodes-in = omega arith; bytes-in = rw length-append (omega (arith, h)) }
 
 module _ {src cells : List ℕ} {p left : ℕ} where
   pub text-most : {n : ℕ} → Front src cells p (next_at cells p) → head_at cells p % 4 ≡ 0 → n ≡ length (spelt (bytes_at src cells p)) → Most src cells p (next_at cells p) left 1 n
@@ -125,19 +119,17 @@ module _ {src cells : List ℕ} {p left : ℕ} where
   pub run-most : {q n : ℕ} → OneRun src cells p q → n ≡ length (spelt (bytes_at src cells p)) → Most src cells p q left 1 n
   run-most o d = rw o.ends (text-most (rw o.ends at o.node) o.run d)
 
-  pub element-most : {n b x y : ℕ} → Valid src cells p (next_at cells p) → p < next_at cells p → head_at cells p % 4 ≡ 1 → (left ≡ 0 → ⊥)
-      → length (parts 0 (tag_of (bytes_at src cells p))) ≤ 8 → Most src cells (p + 1) (next_at cells p) (left - 1) n b
-      → x ≡ 1 + length (parts 0 (tag_of (bytes_at src cells p))) + n → y ≡ length (tag_of (bytes_at src cells p)) + length (name_of (tag_of (bytes_at src cells p))) + 5 + b
-      → Most src cells p (next_at cells p) left x y
-  element-most d l k e c m ex ey =
+  pub element-most : {n b x y : ℕ} → Front src cells p (next_at cells p) → head_at cells p % 4 ≡ 1 → (left ≡ 0 → ⊥) → Most src cells (p + 1) (next_at cells p) (left - 1) n b
+      → x ≡ 1 + n → y ≡ 2 * length (bytes_at src cells p) + 5 + b → Most src cells p (next_at cells p) left x y
+  element-most g k e m ex ey =
       rw (ex, ey) (record {
-        few = omega (arith, m.few);
-        short = omega (arith, m.short, (raw-most d.tape l k).1);
+        few = omega (arith, g.forward, m.few);
+        short = omega (arith, g.forward, m.short, name-length g);
         each = λ f t v h.
-            let i = inner-node t l (λ z. omega arith) in
-            let h2 : Parted v (elem (tag_of (bytes_at src cells p)) i.kids end) = rw (i.element k) at h in
+            let i = inner-node t g.forward (λ z. omega arith) in
+            let h2 : Parted v (elem (bytes_at src cells p) i.kids end) = rw (i.element k) at h in
             let z : left - 1 + 1 ≡ left = omega (arith, e) in
-            rw (i.element k) (rw z at (elem-bounded v (tag_of (bytes_at src cells p)) c (m.each i.kids i.tape v h2.0)));
+            rw (i.element k) (rw z at (elem-bounded v (bytes_at src cells p) (m.each i.kids i.tape v h2.0)));
       })
 
   pub timed-most : {n b : ℕ} → Front src cells p (next_at cells p) → head_at cells p % 4 ≡ 2 → Most src cells (p + 1) (next_at cells p) left n b → Most src cells p (next_at cells p) left n b
@@ -196,7 +188,6 @@ module _ {src cells : List ℕ} {p : ℕ} where
 -- version v has of these siblings so much beside contents, and contents of at most m nodes and c bytes
 pub record Summed (v : ℕ) (d : Forest) (left n b m c : ℕ) : Type 0 where
   pub flat : depth d ≤ left
-  pub uncrowded : crowded d ≡ false
   pub nodes-in : nodes (pick v d) ≤ n + when_in (has_content v d) m
   pub bytes-in : length (write (pick v d)) ≤ b + when_in (has_content v d) c
 
@@ -206,8 +197,8 @@ pub record Gone (src cells : List ℕ) (lo p q left n b m c : ℕ) : Type 0 wher
   pub rest : Forest
   pub before : Tape src cells lo p done
   pub after : Tape src cells p q rest
-  pub few : n + m ≤ 196640 * (p - lo)
-  pub short : b + c ≤ 196640 * (p - lo)
+  pub few : n + m ≤ p - lo
+  pub short : b + c ≤ 163840 * (p - lo)
   pub each : (v : ℕ) → Parted v done → Summed v done left n b m c
 
 -- ---- one sibling more
@@ -226,7 +217,6 @@ summed-plain v d g s h e =
     let w : has_content v (join d g) ≡ has_content v d = has_join v d g ∙ rw e (or-false (has_content v d)) in
     record {
       flat = omega (arith, depth-join d g, s.flat, h.flat);
-      uncrowded = crowded-join d g ∙ neither s.uncrowded h.uncrowded;
       nodes-in = rw w (omega (arith, nodes-both v d g, s.nodes-in, h.nodes-in));
       bytes-in = rw w (omega (arith, bytes-both v d g, s.bytes-in, h.bytes-in));
     }
@@ -238,7 +228,6 @@ summed-lacks v d t k s h e mx cy =
     let w : has_content v (join d g) ≡ has_content v d = has_join v d g ∙ rw (content-lacking v t k e) (or-false (has_content v d)) in
     record {
       flat = omega (arith, depth-join d g, s.flat, h.flat);
-      uncrowded = crowded-join d g ∙ neither s.uncrowded h.uncrowded;
       nodes-in = rw w (omega (arith, nodes-both v d g, s.nodes-in, nodes-lacking v t k e, when-most (has_content v d) mx));
       bytes-in = rw w (omega (arith, bytes-both v d g, s.bytes-in, bytes-lacking v t k e, when-most (has_content v d) cy));
     }
@@ -254,7 +243,6 @@ summed-has v d t k {n = n} {b} {m} {c} {x} {y} s h o e p mx cy =
     let a2 : length (write (pick v d)) ≤ b + 0 = rw z at s.bytes-in in
     record {
       flat = omega (arith, depth-join d g, s.flat, h.flat);
-      uncrowded = crowded-join d g ∙ neither s.uncrowded h.uncrowded;
       nodes-in = rw w (omega (arith, nodes-both v d g, a, h.nodes-in));
       bytes-in = rw w (omega (arith, bytes-both v d g, a2, h.bytes-in));
     }
@@ -319,15 +307,14 @@ module _ {src cells : List ℕ} {lo p q left n b m c : ℕ} where
             let s = g.each v (rw d at h) in
             rw d (record {
               flat = s.flat;
-              uncrowded = s.uncrowded;
               nodes-in = omega (arith, s.nodes-in, when-all (has_content v g.done) m);
               bytes-in = omega (arith, s.bytes-in, when-all (has_content v g.done) c);
             });
       }
 
 pub gone-start : {src cells : List ℕ} {lo q left : ℕ} → Valid src cells lo q → Gone src cells lo lo q left 0 0 0 0
-unfolding depth crowded pick nodes write has_content
-gone-start t = record { done = end; rest = t.forest; before = at-end refl; after = t.tape; few = omega arith; short = omega arith; each = λ v h. record { flat = omega arith; uncrowded = refl; nodes-in = omega arith; bytes-in = omega arith } }
+unfolding depth pick nodes write has_content
+gone-start t = record { done = end; rest = t.forest; before = at-end refl; after = t.tape; few = omega arith; short = omega arith; each = λ v h. record { flat = omega arith; nodes-in = omega arith; bytes-in = omega arith } }
 
 -- ---- a legal archive within the limits by these bounds
 all_so : (P : ℕ → Bool) (i n : ℕ) → ((j : ℕ) → i ≤ j → j < i + n → P j ≡ true) → all P (up_from i n) ≡ true
@@ -343,5 +330,5 @@ bounded-small {n = n} w m a c f t =
     let e : siblings_legal w.keys n [] (always n) f ≡ true = ap (siblings_legal w.keys n [] (always n)) (tape-one t w.tape) ∙ w.legal in
     let p : Parted j f = rw z at (siblings-parted n (j - 1) (omega arith) w.keys [] (always n) f e) in
     let s = m.each f t j p in
-    not-large (pick j f) (omega (arith, depth-pick j f, s.flat)) (crowded-pick j f s.uncrowded)
+    not-large (pick j f) (omega (arith, depth-pick j f, s.flat))
     ∙ and_both (leb (nodes (pick j f)) 512) (leb (length (write (pick j f))) 16384) (le-leb (nodes (pick j f)) 512 (omega (arith, s.nodes-in))) (le-leb (length (write (pick j f))) 16384 (omega (arith, s.bytes-in)))))

@@ -1,5 +1,5 @@
 -- The walk that measures every version, on its way from sibling to sibling.
-use Rattle.std.specs.Prelude.{ℕ, ◌+◌, ◌%◌, ◌^◌, ◌<◌, ◌≤◌, ◌≡◌, refl, Bool, true, false, List, eqb, length}
+use Rattle.std.specs.Prelude.{ℕ, ◌+◌, ◌-◌, ◌%◌, ◌^◌, ◌<◌, ◌≤◌, ◌≡◌, refl, Bool, true, false, List, eqb, length}
 use Rattle.std.proofs.Common.{arith, sym, ◌∙◌, ap, eqb-true}
 use Rattle.std.proofs.lemmas.Bool.{eqb-false}
 use Rattle.xml.specs.Complete.{join-end, join-assoc}
@@ -122,6 +122,9 @@ module _ {src cells : List ℕ} where
   text-short {p} g =
       omega (arith, length-spelt (bytes_at src cells p), length-slice (start_in (head_at cells p)) (end_in (head_at cells p)) src g.within)
 
+  pub name-length : {p q : ℕ} → Front src cells p q → length (bytes_at src cells p) ≡ end_in (head_at cells p) - start_in (head_at cells p)
+  name-length {p} g = length-slice (start_in (head_at cells p)) (end_in (head_at cells p)) src g.within
+
   inner-read : {p : ℕ} {f : Forest} (t : Tape src cells p (next_at cells p) f) (l : p < next_at cells p) (k : head_at cells p % 4 ≡ 0 → ⊥) → AllRead f → AllRead (inner-node t l k).kids
   inner-read {p} t l k a =
       let i = inner-node t l k in
@@ -148,7 +151,7 @@ module _ {src cells : List ℕ} where
 
   -- what it holds itself
   pub inner-own : {lo hi left : ℕ} {w : Bool} {x x' y y' : List ℕ} {r : Own} → Room src cells lo hi x y
-      → ((h : Forest) → Tape src cells lo hi h → Measured left w h r x x' y y') → r.stopped ≡ false → (r.nodes ≤ 3221749760) × (r.bytes ≤ 3221749760)
+      → ((h : Forest) → Tape src cells lo hi h → Measured left w h r x x' y y') → r.stopped ≡ false → (r.nodes ≤ 16384) × (r.bytes ≤ 2684354560)
   inner-own m k e =
       let t = (k m.forest m.tape).sums e in
       let z = tape-le m.tape in

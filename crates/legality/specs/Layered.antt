@@ -1,5 +1,5 @@
 -- The `T`s of a legal archive: each has a set that is not empty and lies in the one around it. So the sizes of Sizes.antt are those of
--- its versions, and some version is as deep as the archive, and some has an element with as many attributes as any of the archive.
+-- its versions, and some version is as deep as the archive.
 use Rattle.std.specs.Prelude.{ℕ, zero, suc, ◌+◌, ◌-◌, ◌≤◌, ◌<◌, max, ◌≡◌, Bool, ◌&&◌, ◌||◌, [], ◌∷◌, eqb, ltb, length}
 use native.Mathlib.Omega.{arith}
 use Rattle.std.proofs.Math.Path.{refl, ap}
@@ -9,14 +9,13 @@ use Rattle.std.proofs.Math.Option.{some}
 use borrow.Author.Tests.{le-ltb, lt-ltb, leb-true, leb-false, ltb-true, eqb-true, eqb-false}
 use Rattle.std.proofs.Math.Dec.{leb}
 use Rattle.std.proofs.Math.ListN.{get_or}
-use Rattle.xml.specs.Bytes.{Bytes, is_empty, same, all}
-use Rattle.xml.specs.Tags.{parts, named_t}
+use Rattle.xml.specs.Bytes.{Bytes, bytes, is_empty, same, all}
 use Rattle.xml.specs.Forest.{Forest, end, elem, text, stamp, join, depth}
 use Rattle.xml.specs.Read.{is_end}
-use Rattle.xml.specs.Truth.{by-test, clash, both_true, and_left, and_right, and_both, or-both, or-first, or-second}
+use Rattle.xml.specs.Truth.{by-test, clash, both_true, and_left, and_right, and_both, or-first, or-second}
 use Rattle.model.specs.Stored.{or_l}
-use Rattle.keys.specs.KeyList.{Path, KeyList, above, key_names_at}
-use Rattle.keys.specs.Version.{◌▸◌, label, called, is_one_value, crowded, placed}
+use Rattle.keys.specs.KeyList.{Path, KeyList, listed, above, key_names_at}
+use Rattle.keys.specs.Version.{◌▸◌, label, called, is_one_value}
 use Rattle.keys.specs.Legal.{untimed}
 use Rattle.timestamp.specs.Times.{Times, same_times, belongs}
 use Rattle.timestamp.specs.TimesLaws.{times-is, bool_eq, or-by}
@@ -30,7 +29,6 @@ use Rattle.versions.specs.ListedLaws.{ever-some}
 use Rattle.versions.specs.LegalTexts.{fits, legal-text}
 use Rattle.legality.specs.Measured.{stops, AllRead}
 use Rattle.legality.specs.Raised.{Readable}
-use Rattle.legality.specs.Peaks.{peak, Rises, peak-join, max-ltb}
 
 -- every version of t is one of u
 abbrev pub Inside : Times → Times → Type 0
@@ -69,8 +67,8 @@ module _ (n : ℕ) where
   untimed-layered w t end u = tt
   untimed-layered w t (text b r) u = untimed-layered w t r u
   untimed-layered w t (elem m k r) u =
-      let v = and_left (not (named_t m) && untimed k) (untimed r) u in
-      (untimed-layered false t k (and_right (not (named_t m)) (untimed k) v), untimed-layered w t r (and_right (not (named_t m) && untimed k) (untimed r) u))
+      let v = and_left (not (same m (bytes "T")) && untimed k) (untimed r) u in
+      (untimed-layered false t k (and_right (not (same m (bytes "T"))) (untimed k) v), untimed-layered w t r (and_right (not (same m (bytes "T")) && untimed k) (untimed r) u))
   untimed-layered w t (stamp s k r) u = clash (sym u)
 
   branches-layered : (t : Times) (f : Forest) → all_timed n f ≡ true → contents_apart (branches_in n f) ≡ true → Inside (together (branches_in n f)) t → Layered n false t f
@@ -121,7 +119,7 @@ module _ (n : ℕ) where
   siblings-layered K p t (elem m k r) h =
       let h4 = both_true _ (siblings_legal K n p t r) h in
       let h3 = both_true _ (precedes (some (label K p m k)) (first_label K p r)) h4.0 in
-      let h2 = both_true (placed K p m && not (named_t m)) _ h3.0 in
+      let h2 = both_true (listed K (p ▸ m) && not (same m (bytes "T"))) _ h3.0 in
       (within-element (above K (p ▸ m)) (λ x. siblings-layered K (p ▸ m) t k x) h2.1, siblings-layered K p t r h4.1)
     where
       within-element : (b : Bool) → (siblings_legal K n (p ▸ m) t k ≡ true → Layered n false t k)
@@ -152,7 +150,14 @@ layered-nested n w t (elem m k r) i l h = (layered-nested n false t k i l h.0, l
 layered-nested n w t (stamp s k r) i l h =
     ((λ e. h.1 i (times-at n s i l ∙ e)), rw (← times-at n s i l) (layered-nested n true (times_in n s) k i l h.2), layered-nested n w t r i l h.3)
 
--- ---- the walk stops just where elements lie too deep, or one has a ninth attribute
+-- ---- the walk stops just where elements lie too deep
+max-ltb : (d a b : ℕ) → ltb d (max a b) ≡ (ltb d a || ltb d b)
+max-ltb d a b =
+    bool_eq (ltb d (max a b)) (ltb d a || ltb d b)
+    (λ e. let l = ltb-true d (max a b) e in
+    by-test (leb a b) (λ x. or-second (ltb d a) (ltb d b) (lt-ltb d b (omega (arith, leb-true a b x)))) (λ x. or-first (ltb d a) (ltb d b) (lt-ltb d a (omega (arith, leb-false a b x)))))
+    (λ e. or-by (ltb d a) (ltb d b) e (λ x. lt-ltb d (max a b) (omega (arith, ltb-true d a x))) (λ x. lt-ltb d (max a b) (omega (arith, ltb-true d b x))))
+
 suc-ltb : (d a : ℕ) → ltb d (1 + a) ≡ (eqb d 0 || ltb (d - 1) a)
 suc-ltb d a =
     bool_eq (ltb d (1 + a)) (eqb d 0 || ltb (d - 1) a)
@@ -174,43 +179,49 @@ layered-read n w t (text c r) b h = layered-read n w t r b h
 layered-read n w t (elem m k r) b h = (layered-read n false t k b h.0, layered-read n w t r b h.1)
 layered-read n w t (stamp s k r) b h = (text-readable n s b h.0, layered-read n true (times_in n s) k b h.2, layered-read n w t r b h.3)
 
--- the tests of an element, in the order of the walk and in that of the two limits
-regroup : (a b c d e f : Bool) → (a || b || (c || d) || (e || f)) ≡ (a || c || e || (b || d || f))
-regroup true b c d e f = refl
-regroup false b true d e f = or-first (b || true) (e || f) (or-second b true refl)
-regroup false true false d true f = refl
-regroup false true false d false f = refl
-regroup false false false true true f = refl
-regroup false false false true false f = refl
-regroup false false false false e f = refl
-
-pub layered-stops : (n : ℕ) (w : Bool) (t : Times) (f : Forest) (d : ℕ) → Layered n w t f → stops d w f ≡ (ltb d (depth f) || crowded f)
-unfolding stops depth crowded
-layered-stops n w t end d h = sym (or-both (ltb d 0) false (le-ltb d 0 (omega arith)) refl)
+pub layered-stops : (n : ℕ) (w : Bool) (t : Times) (f : Forest) (d : ℕ) → Layered n w t f → stops d w f ≡ ltb d (depth f)
+unfolding stops depth
+layered-stops n w t end d h = sym (le-ltb d 0 (omega arith))
 layered-stops n w t (text c r) d h = layered-stops n w t r d h
 layered-stops n w t (elem m k r) d h =
-    let b = ltb 8 (length (parts 0 m)) in
-    ap₂ (λ (x y : Bool). eqb d 0 || b || x || y) (layered-stops n false t k (d - 1) h.0) (layered-stops n w t r d h.1)
-    ∙ regroup (eqb d 0) b (ltb (d - 1) (depth k)) (crowded k) (ltb d (depth r)) (crowded r)
-    ∙ ap (λ (x : Bool). x || (b || crowded k || crowded r)) (ap (λ (x : Bool). x || ltb d (depth r)) (sym (suc-ltb d (depth k))) ∙ sym (max-ltb d (1 + depth k) (depth r)))
+    ap₂ (λ (x y : Bool). eqb d 0 || x || y) (layered-stops n false t k (d - 1) h.0) (layered-stops n w t r d h.1)
+    ∙ ap (λ (x : Bool). x || ltb d (depth r)) (sym (suc-ltb d (depth k))) ∙ sym (max-ltb d (1 + depth k) (depth r))
 layered-stops n w t (stamp s k r) d h =
     ap (λ (x : Bool). x || stops d true k || stops d w r) h.4
-    ∙ ap₂ (λ (x y : Bool). x || y) (layered-stops n true (times_in n s) k d h.2) (layered-stops n w t r d h.3)
-    ∙ regroup false false (ltb d (depth k)) (crowded k) (ltb d (depth r)) (crowded r) ∙ ap (λ (x : Bool). x || (crowded k || crowded r)) (sym (max-ltb d (depth k) (depth r)))
+    ∙ ap₂ (λ (x y : Bool). x || y) (layered-stops n true (times_in n s) k d h.2) (layered-stops n w t r d h.3) ∙ sym (max-ltb d (depth k) (depth r))
 
--- ---- some version is as high
+-- ---- no version is deeper, and some version is as deep
+pub depth-join : (f g : Forest) → depth (join f g) ≡ max (depth f) (depth g)
+unfolding depth join
+depth-join end g = omega arith
+depth-join (text b r) g = depth-join r g
+depth-join (elem m k r) g = omega (arith, depth-join r g)
+depth-join (stamp s k r) g = omega (arith, depth-join r g)
+
+pub depth-pick : (i : ℕ) (f : Forest) → depth (pick i f) ≤ depth f
+unfolding depth pick
+depth-pick i end = omega arith
+depth-pick i (text b r) = depth-pick i r
+depth-pick i (elem m k r) = omega (arith, depth-pick i k, depth-pick i r)
+depth-pick i (stamp s k r) = go (belongs i s) (depth-pick i k) (depth-pick i r)
+  where
+    go : (b : Bool) → depth (pick i k) ≤ depth k → depth (pick i r) ≤ depth r
+        → depth (elim b as (λ _. Forest) [ true ↦ join (pick i k) (pick i r) | false ↦ pick i r ]) ≤ max (depth k) (depth r)
+    go true a c = omega (arith, depth-join (pick i k) (pick i r))
+    go false a c = omega arith
+
 -- one of the versions t of n
 pub record Member (n : ℕ) (t : Times) : Type 0 where
   pub place : ℕ
   pub below : place < n
   pub there : get_or t place false ≡ true
 
--- and the forest is as high there
-pub record Reached (rule : Bytes → ℕ → ℕ) (n : ℕ) (t : Times) (f : Forest) : Type 0 where
+-- and the forest is as deep there
+pub record Reached (n : ℕ) (t : Times) (f : Forest) : Type 0 where
   pub place : ℕ
   pub below : place < n
   pub there : get_or t place false ≡ true
-  pub high : peak rule f ≤ peak rule (pick (suc place) f)
+  pub deep : depth f ≤ depth (pick (suc place) f)
 
 ever-member : (n : ℕ) (s : Bytes) → ever (times_in n s) ≡ true → Member n (times_in n s)
 unfolding times_in
@@ -220,51 +231,44 @@ ever-member n s e =
     let l : x.0 - 1 < n = omega (arith, x.1, x.2) in
     record { place = x.0 - 1; below = l; there = times-at n s (x.0 - 1) l ∙ ap (λ (j : ℕ). belongs j s) z ∙ x.3 }
 
-module _ (rule : Bytes → ℕ → ℕ) where
-  -- of a `T`'s content and the siblings after it, in a version that it has
-  pick-in : (i : ℕ) (s : Bytes) (k r : Forest) → belongs i s ≡ true → peak rule (pick i (stamp s k r)) ≡ max (peak rule (pick i k)) (peak rule (pick i r))
-  unfolding pick
-  pick-in i s k r e = rw (e, pick) (peak-join rule (pick i k) (pick i r))
+-- of a `T`'s content and the siblings after it, in a version that it has
+pick-in : (i : ℕ) (s : Bytes) (k r : Forest) → belongs i s ≡ true → depth (pick i (stamp s k r)) ≡ max (depth (pick i k)) (depth (pick i r))
+unfolding pick
+pick-in i s k r e = rw (e, pick) (depth-join (pick i k) (pick i r))
 
-  -- the siblings after it count in any version
-  pick-after : (i : ℕ) (s : Bytes) (k r : Forest) → peak rule (pick i r) ≤ peak rule (pick i (stamp s k r))
-  unfolding pick
-  pick-after i s k r = go (belongs i s)
-    where
-      go : (b : Bool) → peak rule (pick i r) ≤ peak rule (elim b as (λ _. Forest) [ true ↦ join (pick i k) (pick i r) | false ↦ pick i r ])
-      go true = omega (arith, peak-join rule (pick i k) (pick i r))
-      go false = omega arith
+-- the siblings after it count in any version
+pick-after : (i : ℕ) (s : Bytes) (k r : Forest) → depth (pick i r) ≤ depth (pick i (stamp s k r))
+unfolding pick
+pick-after i s k r = go (belongs i s)
+  where
+    go : (b : Bool) → depth (pick i r) ≤ depth (elim b as (λ _. Forest) [ true ↦ join (pick i k) (pick i r) | false ↦ pick i r ])
+    go true = omega (arith, depth-join (pick i k) (pick i r))
+    go false = omega arith
 
-  module _ (rises : Rises rule) (n : ℕ) where
-    stamp-reached : (t : Times) (s : Bytes) (k r : Forest) → Inside (times_in n s) t → Reached rule n (times_in n s) k → Reached rule n t r → Reached rule n t (stamp s k r)
-    unfolding peak
-    stamp-reached t s k r h x y =
-        by-test (leb (peak rule r) (peak rule k))
-        (λ e. record {
-          place = x.place;
-          below = x.below;
-          there = h x.place x.there;
-          high = omega (arith, leb-true (peak rule r) (peak rule k) e, x.high, pick-in (suc x.place) s k r (sym (times-at n s x.place x.below) ∙ x.there));
-        })
-        (λ e. record {
-          place = y.place;
-          below = y.below;
-          there = y.there;
-          high = omega (arith, leb-false (peak rule r) (peak rule k) e, y.high, pick-after (suc y.place) s k r);
-        })
+module _ (n : ℕ) where
+  stamp-reached : (t : Times) (s : Bytes) (k r : Forest) → Inside (times_in n s) t → Reached n (times_in n s) k → Reached n t r → Reached n t (stamp s k r)
+  unfolding depth
+  stamp-reached t s k r h x y =
+      by-test (leb (depth r) (depth k))
+      (λ e. record {
+        place = x.place;
+        below = x.below;
+        there = h x.place x.there;
+        deep = omega (arith, leb-true (depth r) (depth k) e, x.deep, pick-in (suc x.place) s k r (sym (times-at n s x.place x.below) ∙ x.there));
+      })
+      (λ e. record { place = y.place; below = y.below; there = y.there; deep = omega (arith, leb-false (depth r) (depth k) e, y.deep, pick-after (suc y.place) s k r) })
 
-    pub layered-reached : (w : Bool) (t : Times) (f : Forest) → Member n t → Layered n w t f → Reached rule n t f
-    unfolding peak pick
-    layered-reached w t end m h = record { place = m.place; below = m.below; there = m.there; high = omega arith }
-    layered-reached w t (text b r) m h =
-        let x = layered-reached w t r m h in
-        record { place = x.place; below = x.below; there = x.there; high = x.high }
-    layered-reached w t (elem a k r) m h =
-        let x = layered-reached false t k m h.0 in
-        let y = layered-reached w t r m h.1 in
-        let z = rises a (peak rule k) (peak rule (pick (suc x.place) k)) x.high in
-        by-test (leb (peak rule r) (rule a (peak rule k)))
-        (λ e. record { place = x.place; below = x.below; there = x.there; high = omega (arith, leb-true (peak rule r) (rule a (peak rule k)) e, z) })
-        (λ e. record { place = y.place; below = y.below; there = y.there; high = omega (arith, leb-false (peak rule r) (rule a (peak rule k)) e, y.high) })
-    layered-reached w t (stamp s k r) m h =
-        stamp-reached t s k r h.1 (layered-reached true (times_in n s) k (ever-member n s (and_right (canonical n s) (ever (times_in n s)) h.0)) h.2) (layered-reached w t r m h.3)
+  pub layered-reached : (w : Bool) (t : Times) (f : Forest) → Member n t → Layered n w t f → Reached n t f
+  unfolding depth pick
+  layered-reached w t end m h = record { place = m.place; below = m.below; there = m.there; deep = omega arith }
+  layered-reached w t (text b r) m h =
+      let x = layered-reached w t r m h in
+      record { place = x.place; below = x.below; there = x.there; deep = x.deep }
+  layered-reached w t (elem a k r) m h =
+      let x = layered-reached false t k m h.0 in
+      let y = layered-reached w t r m h.1 in
+      by-test (leb (depth r) (1 + depth k))
+      (λ e. record { place = x.place; below = x.below; there = x.there; deep = omega (arith, leb-true (depth r) (1 + depth k) e, x.deep) })
+      (λ e. record { place = y.place; below = y.below; there = y.there; deep = omega (arith, leb-false (depth r) (1 + depth k) e, y.deep) })
+  layered-reached w t (stamp s k r) m h =
+      stamp-reached t s k r h.1 (layered-reached true (times_in n s) k (ever-member n s (and_right (canonical n s) (ever (times_in n s)) h.0)) h.2) (layered-reached w t r m h.3)

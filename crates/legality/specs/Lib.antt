@@ -1,8 +1,6 @@
 pub mod Raised
 pub mod Measured
-pub mod TagAt
 pub mod Going
-pub mod Peaks
 pub mod Layered
 pub mod Parted
 pub mod SmallLaws

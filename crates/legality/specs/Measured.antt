@@ -1,21 +1,17 @@
 -- The walk that measures every version (Sizes.antt says what): where it stops, what it asks, and what it has done.
-use Rattle.std.specs.Prelude.{ℕ, ◌+◌, ◌*◌, ◌-◌, ◌%◌, ◌<◌, ◌≤◌, ◌≡◌, Bool, true, ◌||◌, List, get_or}
+use Rattle.std.specs.Prelude.{ℕ, ◌+◌, ◌*◌, ◌-◌, ◌%◌, ◌<◌, ◌≤◌, ◌≡◌, Bool, true, false, ◌||◌, List, eqb, get_or}
 use native.Mathlib.Omega.{arith}
 use Rattle.std.proofs.Math.Path.{refl, sym, ap, ap₂}
 use Rattle.std.proofs.Common.{◌∙◌}
-use Rattle.std.proofs.Math.Bool.{false, or_assoc}
-use borrow.Author.Tests.{eq-eqb, ne_eqb, lt-ltb, le-ltb}
-use Rattle.std.proofs.Math.Dec.{eqb, ltb}
+use Rattle.std.proofs.Math.Bool.{or_assoc}
+use borrow.Author.Tests.{eq-eqb, ne_eqb}
 use Rattle.std.proofs.Math.ListN.{length}
-use Rattle.xml.specs.Bytes.{Bytes}
-use Rattle.xml.specs.Tags.{name_of, parts}
+use Rattle.xml.specs.Bytes.{Bytes, bytes, same}
 use Rattle.xml.specs.Forest.{Forest, end, elem, text, stamp, join}
 use Rattle.xml.specs.Signs.{spelt}
-use Rattle.xml.specs.Read.{tag_of}
-use Rattle.xml.specs.Tape.{head_at, next_at, Tagged, Tape, at-end, at-text, at-elem, at-stamp}
-use Rattle.xml.specs.TagLaws.{start-long, start-attrs, tag-counts}
-use Rattle.xml.specs.TapeLaws.{bytes_at, OneRun, tagged_is, tape-le, node-bytes, length-unescape, length-escape, inner-node, text-node}
-use Rattle.xml.specs.Truth.{clash, or-first, or-second}
+use Rattle.xml.specs.Tape.{head_at, next_at, Tape, at-end, at-text, at-elem, at-stamp}
+use Rattle.xml.specs.TapeLaws.{bytes_at, OneRun, tape-le, node-bytes, length-unescape, length-escape, inner-node, text-node}
+use Rattle.xml.specs.Truth.{clash}
 use Rattle.timestamp.specs.Times.{belongs}
 use Rattle.timestamp.specs.Listed.{belongs-listed}
 use Rattle.timestamp.specs.Parse.{accepted, parsed}
@@ -36,12 +32,11 @@ AllRead (text b r) = AllRead r
 AllRead (elem m k r) = AllRead k × AllRead r
 AllRead (stamp t k r) = Readable t × AllRead k × AllRead r
 
--- the walk stops at an element deeper than it may go or with a ninth attribute, or at a `T` straight in a `T` (w says whether the forest
--- stands so)
+-- the walk stops at an element deeper than it may go, or at a `T` straight in a `T` (w says whether the forest stands so)
 unfoldable pub stops : ℕ → Bool → Forest → Bool
 stops d w end = false
 stops d w (text b r) = stops d w r
-stops d w (elem m k r) = eqb d 0 || ltb 8 (length (parts 0 m)) || stops (d - 1) false k || stops d w r
+stops d w (elem m k r) = eqb d 0 || stops (d - 1) false k || stops d w r
 stops d w (stamp t k r) = w || stops d true k || stops d w r
 
 -- ---- forests one after the other
@@ -71,8 +66,7 @@ unfolding stops join
 stops_join d w end g = refl
 stops_join d w (text b r) g = stops_join d w r g
 stops_join d w (elem m k r) g =
-    ap (λ (x : Bool). eqb d 0 || ltb 8 (length (parts 0 m)) || stops (d - 1) false k || x) (stops_join d w r g)
-    ∙ sym (or_assoc (eqb d 0 || ltb 8 (length (parts 0 m)) || stops (d - 1) false k) (stops d w r) (stops d w g))
+    ap (λ (x : Bool). eqb d 0 || stops (d - 1) false k || x) (stops_join d w r g) ∙ sym (or_assoc (eqb d 0 || stops (d - 1) false k) (stops d w r) (stops d w g))
 stops_join d w (stamp t k r) g =
     ap (λ (x : Bool). w || stops d true k || x) (stops_join d w r g) ∙ sym (or_assoc (w || stops d true k) (stops d w r) (stops d w g))
 
@@ -83,44 +77,41 @@ read_join (text b r) g h = read_join r g h
 read_join (elem m k r) g h = let z = read_join r g h.1 in ((h.0, z.0), z.1)
 read_join (stamp t k r) g h = let z = read_join r g h.2 in ((h.0, h.1, z.0), z.1)
 
--- ---- how much it can be: 196,640 nodes or bytes a node of the tape
-
--- an element counts for itself and for its attributes at most
-pub one-parts : (t : Bytes) → one t ≤ 1 + length (parts 0 t)
+-- ---- an element's count
+pub one_none : (n : Bytes) → same n (bytes "T") ≡ true → one n ≡ 0
 unfolding one
-one-parts t = tag-counts t
+one_none n e = rw (e, one)
+
+pub one-some : (n : Bytes) → same n (bytes "T") ≡ false → one n ≡ 1
+unfolding one
+one-some n e = rw (e, one)
+
+-- ---- how much it can be: 163,840 bytes a node
+pub one-most : (n : Bytes) → one n ≤ 1
+unfolding one
+one-most n = go (same n (bytes "T"))
+  where
+    go : (b : Bool) → elim b as (λ _. ℕ) [ true ↦ 0 | false ↦ 1 ] ≤ 1
+    go true = omega arith
+    go false = omega arith
 
 pub when-all : (b : Bool) (x : ℕ) → when_in b x ≤ x
 when-all true x = omega arith
 when-all false x = omega arith
 
 module _ {src cells : List ℕ} where
-  tag-most : {p : ℕ} {t : Bytes} → Tagged src cells p t → (one t ≤ 196640) × (length t + length (name_of t) + 5 ≤ 196640)
-  tag-most {t = t} n =
-      let l = node-bytes n.node in
-      let s = start-long n.start in
-      (omega (arith, one-parts t, start-attrs n.start), omega (arith, s.0, s.1))
-
-  -- the same of an element by its raw tag
-  pub raw-most : {p q : ℕ} {f : Forest} → Tape src cells p q f → p < q → head_at cells p % 4 ≡ 1
-      → (one (tag_of (bytes_at src cells p)) ≤ 196640) × (length (tag_of (bytes_at src cells p)) + length (name_of (tag_of (bytes_at src cells p))) + 5 ≤ 196640)
-  raw-most (at-end e) l k = absurd (omega arith)
-  raw-most (at-text n u e r) l k = absurd (omega (arith, n.kind-is))
-  raw-most (at-elem n i r) l k = rw (tagged_is n) (tag-most n)
-  raw-most (at-stamp n i r) l k = absurd (omega (arith, n.kind-is))
-
-  pub few-nodes : {p q : ℕ} {f : Forest} (v : ℕ) → Tape src cells p q f → own_nodes f + timed_in own_nodes v f ≤ 196640 * (q - p)
+  pub few-nodes : {p q : ℕ} {f : Forest} (v : ℕ) → Tape src cells p q f → own_nodes f + timed_in own_nodes v f ≤ q - p
   unfolding own_nodes timed_in
   few-nodes v (at-end e) = omega arith
   few-nodes v (at-text n u e r) = omega (arith, few-nodes v r, tape-le r)
-  few-nodes v (at-elem n k r) = omega (arith, (tag-most n).0, few-nodes v k, few-nodes v r, tape-le k, tape-le r)
+  few-nodes v (at-elem {n = b} n k r) = omega (arith, one-most b, few-nodes v k, few-nodes v r, tape-le k, tape-le r)
   few-nodes v (at-stamp {t = t} {k = f} n k r) = omega (arith, when-all (belongs v t) (own_nodes f), few-nodes v k, few-nodes v r, tape-le k, tape-le r)
 
-  pub few_bytes : {p q : ℕ} {f : Forest} (v : ℕ) → Tape src cells p q f → own_bytes f + timed_in own_bytes v f ≤ 196640 * (q - p)
+  pub few_bytes : {p q : ℕ} {f : Forest} (v : ℕ) → Tape src cells p q f → own_bytes f + timed_in own_bytes v f ≤ 163840 * (q - p)
   unfolding own_bytes timed_in
   few_bytes v (at-end e) = omega arith
   few_bytes v (at-text {raw = raw} {b = b} n u e r) = omega (arith, node-bytes n, ap length u, length-unescape 0 raw, length-escape b, few_bytes v r, tape-le r)
-  few_bytes v (at-elem n k r) = omega (arith, (tag-most n).1, few_bytes v k, few_bytes v r, tape-le k, tape-le r)
+  few_bytes v (at-elem n k r) = omega (arith, node-bytes n, few_bytes v k, few_bytes v r, tape-le k, tape-le r)
   few_bytes v (at-stamp {t = t} {k = f} n k r) = omega (arith, when-all (belongs v t) (own_bytes f), few_bytes v k, few_bytes v r, tape-le k, tape-le r)
 
 -- ---- what the walk asks, and what it has done
@@ -131,8 +122,8 @@ pub record Room (src cells : List ℕ) (lo hi : ℕ) (nodes bytes : List ℕ) : 
   pub few : hi ≤ 16384
   pub nodes-count : length nodes ≡ 1000
   pub bytes_count : length bytes ≡ 1000
-  pub nodes-room : (v : ℕ) → 1 ≤ v → v ≤ 999 → get_or nodes v 0 + 196640 * (hi - lo) ≤ 3221749760
-  pub bytes-room : (v : ℕ) → 1 ≤ v → v ≤ 999 → get_or bytes v 0 + 196640 * (hi - lo) ≤ 3221749760
+  pub nodes-room : (v : ℕ) → 1 ≤ v → v ≤ 999 → get_or nodes v 0 + (hi - lo) ≤ 16384
+  pub bytes-room : (v : ℕ) → 1 ≤ v → v ≤ 999 → get_or bytes v 0 + 163840 * (hi - lo) ≤ 2684354560
 
 pub record Sums (f : Forest) (n b : ℕ) (nodes nodes' bytes bytes' : List ℕ) : Type 0 where
   pub own-nodes : n ≡ own_nodes f
@@ -173,36 +164,25 @@ module _ {src cells : List ℕ} {p left : ℕ} {w : Bool} {x y : List ℕ} where
       let i = inner-node t l (λ z. omega arith) in
       stopped-measured refl refl s (rw (i.element k, eq-eqb left 0 e) refl)
 
-  -- an element with a ninth attribute
-  pub crowded-measured : {f : Forest} {r : Own} → Tape src cells p (next_at cells p) f → p < next_at cells p → head_at cells p % 4 ≡ 1
-      → 8 < length (parts 0 (tag_of (bytes_at src cells p))) → r.stopped ≡ true → Measured left w f r x x y y
-  unfolding stops
-  crowded-measured t l k e s =
-      let i = inner-node t l (λ z. omega arith) in
-      stopped-measured refl refl s (rw (i.element k) (or-first _ _ (or-first _ _ (or-second (eqb left 0) _ (lt-ltb 8 (length (parts 0 (tag_of (bytes_at src cells p)))) e)))))
-
   -- the walk stopped in it
-  pub element-stopped : {f : Forest} {r : Own} {x' y' : List ℕ} → Tape src cells p (next_at cells p) f → p < next_at cells p → head_at cells p % 4 ≡ 1
+  pub element-stopped : {f : Forest} {r : Own} {x' y' : List ℕ} → Tape src cells p (next_at cells p) f → p < next_at cells p → head_at cells p % 4 ≡ 1 → (left ≡ 0 → ⊥)
       → ((g : Forest) → Tape src cells (p + 1) (next_at cells p) g → Measured (left - 1) false g r x x' y y') → r.stopped ≡ true → Measured left w f r x x' y y'
   unfolding stops
-  element-stopped t l k m s =
+  element-stopped t l k e m s =
       let i = inner-node t l (λ z. omega arith) in
       let j = m i.kids i.tape in
-      let c = eqb left 0 || ltb 8 (length (parts 0 (tag_of (bytes_at src cells p)))) in
-      let e = or-second c (stops (left - 1) false i.kids) (sym j.stop ∙ s) in
-      stopped-measured j.nodes-kept j.bytes-kept s (rw (i.element k) (or-first (c || stops (left - 1) false i.kids) false e))
+      stopped-measured j.nodes-kept j.bytes-kept s (rw (i.element k, ne_eqb left 0 e, sym j.stop ∙ s) refl)
 
   pub element-measured : {f : Forest} {r : Own} {x' y' : List ℕ} {o n b : ℕ} → Tape src cells p (next_at cells p) f → p < next_at cells p → head_at cells p % 4 ≡ 1 → (left ≡ 0 → ⊥)
-      → length (parts 0 (tag_of (bytes_at src cells p))) ≤ 8
       → ((g : Forest) → Tape src cells (p + 1) (next_at cells p) g → Measured (left - 1) false g r x x' y y') → r.stopped ≡ false
-      → o ≡ one (tag_of (bytes_at src cells p)) → n ≡ o + r.nodes → b ≡ length (tag_of (bytes_at src cells p)) + length (name_of (tag_of (bytes_at src cells p))) + 5 + r.bytes
+      → o ≡ one (bytes_at src cells p) → n ≡ o + r.nodes → b ≡ 2 * length (bytes_at src cells p) + 5 + r.bytes
       → Measured left w f (owned n b) x x' y y'
   unfolding stops own_nodes own_bytes timed_in
-  element-measured t l k e h m s a c d =
+  element-measured t l k e m s a c d =
       let i = inner-node t l (λ z. omega arith) in
       let j = m i.kids i.tape in
       let u = j.sums s in
-      rw (i.element k) (sums-measured (rw (ne_eqb left 0 e, le-ltb 8 (length (parts 0 (tag_of (bytes_at src cells p)))) h, sym j.stop ∙ s) refl) (record {
+      rw (i.element k) (sums-measured (rw (ne_eqb left 0 e, sym j.stop ∙ s) refl) (record {
         own-nodes = omega (arith, u.own-nodes);
         own-bytes = omega (arith, u.own-bytes);
         in-nodes = grown-same (λ v. timed_in own_nodes v i.kids + 0) (λ v g h. omega arith) u.in-nodes;

@@ -52,14 +52,14 @@ abbrev pub Judged : Bytes → List ℕ → ℕ → List ℕ → List ℕ → ℕ
 Judged key_text table paths src cells hi r = (K : KeyList) → Table key_text table paths K → (f : Forest) → Tape src cells 0 hi f → r ≡ whole_last K f
 
 -- ---- the reader's answers
-module _ (src cells : List ℕ) {r : Reply} where
-  pub opened-read : {hi : ℕ} → r ≡ Reads hi → Replied true src cells r → length src ≤ 32768 → ReadOn src cells hi
+module _ (src before cells : List ℕ) {r : Reply} where
+  pub opened-read : {hi : ℕ} → r ≡ Reads hi → Replied true src before cells r → length src ≤ 32768 → ReadOn src cells hi
   opened-read {hi} e x l =
-      let g : Filled true src cells hi = subst (Replied true src cells) e x in
+      let g : Filled true src before cells hi = subst (Replied true src before cells) e x in
       record { forest = g.forest; is = g.is; tape = g.tape; few = omega (arith, g.count, version-fits true src g.forest g.is); short = l }
 
-  pub opened-wrong : {p : ℕ} → r ≡ Wrong p → Replied true src cells r → read true src ≡ broken p
-  opened-wrong e x = subst (Replied true src cells) e x
+  pub opened-wrong : {p : ℕ} → r ≡ Wrong p → Replied true src before cells r → read true src ≡ broken p
+  opened-wrong e x = subst (Replied true src before cells) e x
 
 -- ---- a law for each way to refuse a text, or to accept it
 module _ (K : KeyList) (s : Bytes) where
@@ -90,9 +90,9 @@ module _ (K : KeyList) (s : Bytes) where
           illegal-read f e (not_so (forest_legal K f) (λ h. omega (arith, full-archive s cells f o (omega (arith, o.0)) l e (legal-named K f h), legal-few K f h)))
 
 -- the reader's answer that the tape is too short
-pub opened-full : (src cells : List ℕ) {r : Reply} → r ≡ Full → Replied true src cells r → Roomy src cells → length src ≤ 32768
+pub opened-full : (src before cells : List ℕ) {r : Reply} → r ≡ Full → Replied true src before cells r → Roomy src cells → length src ≤ 32768
     → (K : KeyList) → archive_read K src ≡ refused r10
-opened-full src cells e x c l K = full-read K src cells (subst (Replied true src cells) e x) c l
+opened-full src before cells e x c l K = full-read K src cells (subst (Replied true src before cells) e x) c l
 
 -- ---- what is judged of a text that was read
 module _ {key_text : Bytes} {table : List ℕ} {paths : ℕ} {src cells : List ℕ} {hi : ℕ} (g : ReadOn src cells hi) {b : Bool} (d : b ≡ same src (write g.forest)) where

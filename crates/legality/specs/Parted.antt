@@ -8,12 +8,11 @@ use Rattle.std.proofs.Math.Option.{some}
 use mathlib.Core.List.{[], ◌∷◌}
 use borrow.Author.Tests.{not-true}
 use Rattle.std.proofs.Math.Dec.{leb}
-use Rattle.xml.specs.Bytes.{Bytes, all}
-use Rattle.xml.specs.Tags.{named_t}
+use Rattle.xml.specs.Bytes.{Bytes, bytes, same, all}
 use Rattle.xml.specs.Forest.{Forest, end, elem, text, stamp, join, same_forest}
 use Rattle.xml.specs.Truth.{by-test, clash, both_true, or-both, or-second}
-use Rattle.keys.specs.KeyList.{Path, KeyList, above, key_names_at}
-use Rattle.keys.specs.Version.{◌▸◌, label, called, is_one_value, placed}
+use Rattle.keys.specs.KeyList.{Path, KeyList, listed, above, key_names_at}
+use Rattle.keys.specs.Version.{◌▸◌, label, called, is_one_value}
 use Rattle.keys.specs.Legal.{untimed}
 use Rattle.timestamp.specs.Times.{Times, same_times, belongs}
 use Rattle.versions.specs.Walk.{times_in, canonical, ever, within, disjoint, earlier, branches_in, all_timed, apart, contents_apart, together, front_legal, is_sole, first_label, precedes, siblings_legal}
@@ -75,8 +74,8 @@ module _ (n i : ℕ) (l : i < n) where
   untimed-parted end u = tt
   untimed-parted (text b r) u = untimed-parted r u
   untimed-parted (elem m k r) u =
-      let x = both_true (not (named_t m) && untimed k) (untimed r) u in
-      (untimed-parted k (both_true (not (named_t m)) (untimed k) x.0).1, untimed-parted r x.1)
+      let x = both_true (not (same m (bytes "T")) && untimed k) (untimed r) u in
+      (untimed-parted k (both_true (not (same m (bytes "T"))) (untimed k) x.0).1, untimed-parted r x.1)
   untimed-parted (stamp s k r) u = clash (sym u)
 
   disjoint-at : (t u : Times) (j : ℕ) → disjoint t u ≡ true → get_or t j false ≡ true → get_or u j false ≡ false
@@ -132,7 +131,7 @@ module _ (n i : ℕ) (l : i < n) where
   siblings-parted K p t (elem m k r) h =
       let h4 = both_true _ (siblings_legal K n p t r) h in
       let h3 = both_true _ (precedes (some (label K p m k)) (first_label K p r)) h4.0 in
-      let h2 = both_true (placed K p m && not (named_t m)) _ h3.0 in
+      let h2 = both_true (listed K (p ▸ m) && not (same m (bytes "T"))) _ h3.0 in
       (within-element (above K (p ▸ m)) (λ x. siblings-parted K (p ▸ m) t k x) h2.1, siblings-parted K p t r h4.1)
     where
       within-element : (b : Bool) → (siblings_legal K n (p ▸ m) t k ≡ true → Parted (suc i) k)

@@ -11,7 +11,7 @@ use Rattle.xml.specs.Tape.{Tape}
 use Rattle.xml.specs.Truth.{clash, and_left, and_right, both, neither, or-first, or-second}
 use Rattle.timestamp.specs.Set.{set_of, adding}
 use Rattle.versions.specs.Branches.{repeats}
-use Rattle.versions.specs.Hashes.{mixed, folded, folded_tag, mixed-small, folded-small, hash_from, hashes_of, HashOf, hashes-apart}
+use Rattle.versions.specs.Hashes.{mixed, folded, mixed-small, folded-small, hash_from, hashes_of, HashOf, hashes-apart}
 
 -- the bit of the hash h
 unfoldable pub is_seen : List ℕ → ℕ → Bool
@@ -56,7 +56,7 @@ hash-small : (h : ℕ) (f : Forest) → h < 65536 → hash_from h f < 65536
 unfolding hash_from
 hash-small h end l = l
 hash-small h (text b r) l = hash-small (folded (mixed h 0) b) r (folded-small (mixed h 0) b (mixed-small h 0))
-hash-small h (elem b k r) l = hash-small (hash_from (folded_tag (mixed h 1) b) k) r (hash-small (folded_tag (mixed h 1) b) k (omega arith))
+hash-small h (elem b k r) l = hash-small (hash_from (mixed h 1) k) r (hash-small (mixed h 1) k (mixed-small h 1))
 hash-small h (stamp b k r) l = hash-small (hash_from (mixed h 2) k) r (hash-small (mixed h 2) k (mixed-small h 2))
 
 pub hash-fits : {src cells : List ℕ} {lo hi h : ℕ} {f : Forest} → Tape src cells lo hi f → HashOf src cells lo hi h → h < 65536

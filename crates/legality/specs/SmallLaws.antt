@@ -1,31 +1,30 @@
--- Every version of a legal archive is within the limits of 6 just where its elements lie no deeper than 16 and have no ninth attribute, and
--- the sizes that the walk has added up (Measured.antt) are within them.
+-- Every version of a legal archive is within the limits of 6 just where its elements lie no deeper than 16 and the sizes that the walk
+-- has added up (Measured.antt) are within them.
 use Prim.Native.Nat.{ℕ, zero, suc, ◌+◌, ◌-◌, ◌≤◌, ◌<◌}
 use native.Mathlib.Omega.{arith}
-use Rattle.std.specs.Prelude.{◌≡◌, Bool, true, ◌&&◌, ◌||◌, List, [], ltb, length, replicate}
+use Rattle.std.specs.Prelude.{◌≡◌, Bool, true, ◌&&◌, ◌||◌, List, [], length, replicate}
 use Rattle.std.proofs.Math.Path.{refl, ap, ap₂}
 use Rattle.std.proofs.Common.{sym, ◌∙◌}
-use Rattle.std.proofs.Math.Bool.{false, not, or-false}
+use Rattle.std.proofs.Math.Bool.{false, not}
 use borrow.Author.Tests.{le-ltb, lt-ltb, le-leb, lt-leb, ltb-true, ltb-false, not-true}
-use Rattle.std.proofs.Math.Dec.{leb}
+use Rattle.std.proofs.Math.Dec.{leb, ltb}
 use Rattle.std.proofs.Math.ListN.{get_or}
 use Rattle.std.proofs.lemmas.List.{length-replicate, get_or-replicate}
-use Rattle.xml.specs.Bytes.{Bytes, all}
+use Rattle.xml.specs.Bytes.{all}
 use Rattle.xml.specs.Forest.{Forest, write, nodes, depth}
 use Rattle.xml.specs.Tape.{Tape}
 use Rattle.xml.specs.TapeLaws.{tape-one}
-use Rattle.xml.specs.Truth.{by-test, clash, not_so, and_left, and_right, both_false, or-second}
+use Rattle.xml.specs.Truth.{by-test, clash, not_so, and_left, and_right, or_left}
 use Rattle.keys.specs.KeyList.{KeyList}
-use Rattle.keys.specs.Version.{crowded, too_large}
+use Rattle.keys.specs.Version.{too_large}
 use Rattle.timestamp.specs.Times.{always, up_from}
-use Rattle.timestamp.specs.TimesLaws.{same_or, or-by}
+use Rattle.timestamp.specs.TimesLaws.{same_or}
 use Rattle.versions.specs.Archive.{pick}
 use Rattle.versions.specs.Walk.{siblings_legal, all_small}
 use Rattle.versions.specs.Sizes.{own_nodes, own_bytes, timed_in, Nested, nodes-pick, bytes-pick}
 use Rattle.versions.specs.Grown.{Cells}
 use Rattle.legality.specs.Measured.{stops, few-nodes, few_bytes, Room, Sums, Measured}
-use Rattle.legality.specs.Peaks.{peak, Rises, deeper, deeper-rises, depth-peak, depth-pick, wider, wider-rises, crowded-peak, crowded-pick}
-use Rattle.legality.specs.Layered.{Layered, siblings-layered, layered-nested, layered-read, layered-stops, layered-reached}
+use Rattle.legality.specs.Layered.{Layered, siblings-layered, layered-nested, layered-read, layered-stops, depth-pick, layered-reached}
 use Rattle.versions.specs.Small.{LegalInside, is_small}
 use Rattle.legality.specs.declared.sizes.Own.{Own}
 
@@ -50,23 +49,13 @@ not-both : (x y : Bool) → not (x || y) ≡ (not x && not y)
 not-both true y = refl
 not-both false y = refl
 
--- what is within the limits, of a forest that is neither too deep nor crowded
-pub not-large : (f : Forest) → depth f ≤ 16 → crowded f ≡ false → not (too_large f) ≡ (leb (nodes f) 512 && leb (length (write f)) 16384)
+-- what is within the limits, of a forest that is not too deep
+pub not-large : (f : Forest) → depth f ≤ 16 → not (too_large f) ≡ (leb (nodes f) 512 && leb (length (write f)) 16384)
 unfolding too_large
-not-large f h e =
-    rw (le-ltb 16 (depth f) h, e) (ap not (or-false (ltb 512 (nodes f) || ltb 16384 (length (write f))))
-    ∙ not-both (ltb 512 (nodes f)) (ltb 16384 (length (write f))) ∙ ap₂ (λ (x y : Bool). x && y) (not-less 512 (nodes f)) (not-less 16384 (length (write f))))
+not-large f h =
+    rw (le-ltb 16 (depth f) h) (not-both (ltb 512 (nodes f)) (ltb 16384 (length (write f))) ∙ ap₂ (λ (x y : Bool). x && y) (not-less 512 (nodes f)) (not-less 16384 (length (write f))))
 
--- what is too deep or crowded is too large
-deep-large : (f : Forest) → 16 < peak deeper f → too_large f ≡ true
-unfolding too_large
-deep-large f h = rw (lt-ltb 16 (depth f) (omega (arith, depth-peak f))) refl
-
-crowded-large : (f : Forest) → 8 < peak wider f → too_large f ≡ true
-unfolding too_large
-crowded-large f h = or-second (ltb 16 (depth f) || ltb 512 (nodes f) || ltb 16384 (length (write f))) (crowded f) (crowded-peak f ∙ lt-ltb 8 (peak wider f) h)
-
--- version i of the forest is within the limits of its sizes
+-- version i of the forest is within the limits, its depth apart
 unfoldable pub sizes_fit : Forest → ℕ → Bool
 sizes_fit f i = leb (own_nodes f + timed_in own_nodes i f) 512 && leb (own_bytes f + timed_in own_bytes i f) 16384
 
@@ -92,42 +81,40 @@ module _ (K : KeyList) (n : ℕ) (some-there : 1 ≤ n) (not_more : n ≤ 999) (
   pub nested : (i : ℕ) → i < n → Nested (suc i) true f
   nested i l = rw (always-at n i l) at (layered-nested n false (always n) f i l layers)
 
-  -- a forest that is too high is so in some version
-  small-high : (rule : Bytes → ℕ → ℕ) → Rises rule → (most : ℕ) → ((g : Forest) → most < peak rule g → too_large g ≡ true) → most < peak rule f → all_small n f ≡ false
-  unfolding all_small
-  small-high rule rises most large d =
-      let r = layered-reached rule rises n false (always n) f (record { place = 0; below = some-there; there = always-at n 0 some-there }) layers in
+  -- elements that lie too deep do so in some version
+  small-deep : 16 < depth f → all_small n f ≡ false
+  unfolding all_small too_large
+  small-deep d =
+      let r = layered-reached n false (always n) f (record { place = 0; below = some-there; there = always-at n 0 some-there }) layers in
       let b = r.below in
+      let x = r.deep in
+      let g = pick (suc r.place) f in
       not_so (all (λ i. not (too_large (pick i f))) (up_from 1 n)) (λ h.
-      clash (sym (large (pick (suc r.place) f) (omega (arith, r.high)))
-      ∙ not-true (too_large (pick (suc r.place) f)) (all-at (λ i. not (too_large (pick i f))) 1 n h (suc r.place) (omega arith) (omega arith))))
+      let y = not-true (ltb 16 (depth g) || ltb 512 (nodes g) || ltb 16384 (length (write g))) (all-at (λ i. not (too_large (pick i f))) 1 n h (suc r.place) (omega arith) (omega arith)) in
+      clash (sym (lt-ltb 16 (depth g) (omega arith)) ∙ or_left (ltb 16 (depth g)) (ltb 512 (nodes g)) (or_left (ltb 16 (depth g) || ltb 512 (nodes g)) (ltb 16384 (length (write g))) y)))
 
   -- one version, by its sizes
-  version-small : depth f ≤ 16 → crowded f ≡ false → (i : ℕ) → i < n → not (too_large (pick (suc i) f)) ≡ sizes_fit f (suc i)
+  version-small : depth f ≤ 16 → (i : ℕ) → i < n → not (too_large (pick (suc i) f)) ≡ sizes_fit f (suc i)
   unfolding sizes_fit
-  version-small d c i l =
-      not-large (pick (suc i) f) (omega (arith, depth-pick (suc i) f)) (crowded-pick (suc i) f c)
+  version-small d i l =
+      not-large (pick (suc i) f) (omega (arith, depth-pick (suc i) f))
       ∙ ap₂ (λ (p q : ℕ). leb p 512 && leb q 16384) (nodes-pick (suc i) f (nested i l)) (bytes-pick (suc i) f (nested i l))
 
-  small-flat : depth f ≤ 16 → crowded f ≡ false → all_small n f ≡ all (sizes_fit f) (up_from 1 n)
+  small-flat : depth f ≤ 16 → all_small n f ≡ all (sizes_fit f) (up_from 1 n)
   unfolding all_small
-  small-flat d c =
+  small-flat d =
       all_same (λ i. not (too_large (pick i f))) (sizes_fit f) 1 n (λ j l h.
       let z : suc (j - 1) ≡ j = omega arith in
-      rw z at (version-small d c (j - 1) (omega arith)))
+      rw z at (version-small d (j - 1) (omega arith)))
 
   -- ---- as the walk has it
   pub small-stopped : stops 16 false f ≡ true → all_small n f ≡ false
-  small-stopped e =
-      or-by (ltb 16 (depth f)) (crowded f) (sym (layered-stops n false (always n) f 16 layers) ∙ e)
-      (λ x. small-high deeper deeper-rises 16 deep-large (omega (arith, ltb-true 16 (depth f) x, depth-peak f)))
-      (λ x. small-high wider wider-rises 8 crowded-large (ltb-true 8 (peak wider f) (sym (crowded-peak f) ∙ x)))
+  small-stopped e = small-deep (ltb-true 16 (depth f) (sym (layered-stops n false (always n) f 16 layers) ∙ e))
 
   pub small_is : (x y : ℕ) (a b : List ℕ) → stops 16 false f ≡ false → Sums f x y noughts a noughts b → all_small n f ≡ all (is_small a b x y) (up_from 1 n)
   unfolding is_small sizes_fit
   small_is x y a b e s =
-      let q = both_false (ltb 16 (depth f)) (crowded f) (sym (layered-stops n false (always n) f 16 layers) ∙ e) in
-      small-flat (ltb-false 16 (depth f) q.0) q.1
+      small-flat (ltb-false 16 (depth f) (sym (layered-stops n false (always n) f 16 layers) ∙ e))
       ∙ all_same (sizes_fit f) (is_small a b x y) 1 n (λ j l h.
       let z = zeros j (omega arith) in
       let u : own_nodes f + timed_in own_nodes j f ≡ x + get_or a j 0 = omega (arith, s.own-nodes, s.in-nodes.each j l (omega arith)) in

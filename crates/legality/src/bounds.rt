@@ -6,7 +6,6 @@ ghost use Rattle.xml.specs.Tape.{next_at, Tape, Valid};
 ghost use Rattle.legality.specs.Bounds.{content_node, Bounds};
 
 use crate::legal::is_sole;
-use crate::tags::tag_counts;
 use xml::compare::text_len;
 use xml::tape::{is_run, view_at};
 
@@ -69,7 +68,7 @@ fn bound_inside(src: &[u8], tape: &[u32], lo: usize, hi: usize, left: usize) -> 
     bound(src, tape, lo, hi, left)
 }
 
-// Node p, with elements at most `left` deep and none with a ninth attribute.
+// Node p, with elements at most `left` deep.
 #[cycle(bound_bound_inside_bound_node)]
 fn bound_node(src: &[u8], tape: &[u32], p: usize, left: usize) -> u64
     requires { (p < next_at tape.now p) × Valid src.now tape.now p (next_at tape.now p) × (next_at tape.now p ≤ 16384) }
@@ -85,18 +84,15 @@ fn bound_node(src: &[u8], tape: &[u32], p: usize, left: usize) -> u64
     if left == 0 {
         return STOPPED;
     }
-    let t = tag_counts(src, v.start, v.end);
-    if 8 < t.attributes {
-        return STOPPED;
-    }
     let k = bound_inside(src, tape, p + 1, v.next, left - 1);
     if STOPPED <= k {
         return STOPPED;
     }
-    packed(1 + t.attributes + nodes_in(k), t.bytes + bytes_in(k))
+    let name = (v.end - v.start) as u32;
+    packed(1 + nodes_in(k), 2 * name + 5 + bytes_in(k))
 }
 
-// The nodes lo to hi, with elements at most `left` deep and none with a ninth attribute; it stops where they are too many for a version.
+// The nodes lo to hi, with elements at most `left` deep; it stops where they are too many for a version.
 #[cycle(bound_bound_inside_bound_node)]
 pub(crate) fn bound(src: &[u8], tape: &[u32], lo: usize, hi: usize, left: usize) -> u64
     requires { Valid src.now tape.now lo hi × (hi ≤ 16384) }

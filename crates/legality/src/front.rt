@@ -3,7 +3,6 @@ ghost use Rattle.std.specs.Prelude.{◌≡◌, not, ◌&&◌, ◌%◌, ◌≤◌
 ghost use Rattle.std.proofs.Math.Seq.{slice};
 ghost use Rattle.xml.specs.Forest.{Forest, end, same_forest};
 ghost use Rattle.xml.specs.Tape.{Tape, Valid};
-ghost use Rattle.xml.specs.TapeLaws.{meaning};
 ghost use Rattle.keys.specs.Legal.{untimed};
 ghost use Rattle.timestamp.specs.Times.{Times};
 ghost use Rattle.timestamp.specs.Set.{set_of, empty_set, adding};
@@ -13,26 +12,24 @@ ghost use Rattle.versions.specs.Untimed.{timed_node};
 ghost use Rattle.versions.specs.Branches.{repeats, judged};
 ghost use Rattle.versions.specs.Hashes.{HashOf, Notes};
 ghost use Rattle.legality.specs.Seen.{is_seen, Seen};
-ghost use Rattle.legality.specs.TagAt.{TagAt};
 
 use crate::few::{are_few, few_legal};
 use crate::hash::hash;
-use crate::tags::is_named;
 use crate::times::take_at;
 use timestamp::Timestamp;
-use xml::compare::same_nodes;
+use xml::compare::{same_bytes, same_nodes};
 use xml::tape::view_at;
 
-// A node of this kind, named by src[a..e], is a `T`, or an element with that name or with an attribute of that name.
-fn is_timed(src: &[u8], kind: u32, a: usize, e: usize) -> bool
-    requires { kind ≡ 1 → TagAt src.now a e }
-    ensures { result ≡ timed_node kind (meaning kind (slice a e src.now)) }
+// A node of this kind, named by src[a..e], is a `T` or an element with that name.
+pub fn is_timed(src: &[u8], kind: u32, a: usize, e: usize) -> bool
+    requires { (a ≤ e) × (e ≤ length src.now) }
+    ensures { result ≡ timed_node kind (slice a e src.now) }
 {
     if kind == 2 {
         return true;
     }
     if kind == 1 {
-        return is_named(src, a, e);
+        return same_bytes(src, a, e, b"T", 0, 1);
     }
     false
 }

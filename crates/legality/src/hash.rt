@@ -1,13 +1,11 @@
 // Hashes of forests: numbers that equal forests share, so that forests with different hashes need no comparison.
-ghost use Rattle.std.specs.Prelude.{◌≡◌, ◌+◌, ◌-◌, ◌*◌, ◌^◌, ◌<◌, ◌≤◌, length};
+ghost use Rattle.std.specs.Prelude.{◌≡◌, ◌+◌, ◌*◌, ◌^◌, ◌<◌, ◌≤◌, length};
 ghost use Rattle.std.proofs.Math.Seq.{slice};
 ghost use Rattle.xml.specs.Read.{unescape};
-ghost use Rattle.xml.specs.TagParts.{IsTag};
 ghost use Rattle.xml.specs.Tape.{Valid};
-ghost use Rattle.versions.specs.Hashes.{mixed, folded, folded_tag, hash_node, HashOf};
+ghost use Rattle.versions.specs.Hashes.{mixed, folded, hash_node, HashOf};
 ghost use Rattle.legality.specs.Folded.{weighed};
 
-use xml::tag::{name_end, part_at};
 use xml::tape::view_at;
 use xml::text::{plain_end, sign_at};
 
@@ -91,32 +89,16 @@ fn fold_run(src: &[u8], a: usize, e: usize, start: u32) -> u32
     h
 }
 
-// A tag folded into a hash: the hashes of its attributes are added, in any order.
-fn fold_tag(s: &[u8], start: u32) -> u32
-    requires { IsTag s.now × (length s.now ≤ 32768) × (start < 65536) }
-    ensures { result ≡ folded_tag start s.now }
-{
-    let mut sum = start;
-    let mut i = name_end(s);
-    while i < s.len() {
-        let p = part_at(s, i);
-        let name = fold_bytes(s, i + 1, p.equals, 0);
-        sum += fold_run(s, p.equals + 2, p.end, name);
-        i = p.end + 1;
-    }
-    sum % 65536
-}
-
 // A node of this kind, named by src[a..e], folded into a hash.
 fn hash_node(src: &[u8], kind: u32, a: usize, e: usize, h: u32) -> u32
-    requires { (a ≤ e) × (e ≤ length src.now) × (e - a ≤ 32768) × (h < 65536) × (kind ≡ 1 → IsTag (slice a e src.now)) }
+    requires { (a ≤ e) × (e ≤ length src.now) × (h < 65536) }
     ensures { result ≡ hash_node kind (slice a e src.now) h }
 {
     if kind == 0 {
         return fold_run(src, a, e, mix(h, 0));
     }
     if kind == 1 {
-        return fold_tag(&src[a..e], mix(h, 1));
+        return mix(h, 1);
     }
     mix(h, 2)
 }

@@ -15,13 +15,13 @@ ghost use Rattle.versions.specs.LegalTimes.{TimesRead, OwnRead};
 ghost use Rattle.versions.specs.LegalSteps.{Ascends, ElementAsked, ElementSaid};
 
 use crate::front::front_legal;
-use crate::tags::{is_name, is_named};
 use crate::times::parse_at;
 use keys::keyed::has_key;
 use keys::label::compare_labels;
 use keys::places::{child, is_above, key_count, key_name};
 use timestamp::Timestamp;
 use walks::history::element_at;
+use xml::compare::same_bytes;
 use xml::tape::view_at;
 
 // An element at a place, which holds the nodes lo to hi, has each key child just once, bare and with a value.
@@ -135,14 +135,11 @@ fn element_legal(
     ensures { ElementSaid text.now table.now paths place src.now tape.now e n (set_of times.words) result }
 {
     let v = view_at(tape, e);
-    if !is_name(src, v.start, v.end) {
-        return false;
-    }
     let own = child(text, table, paths, place, src, v.start, v.end);
     if own == 129 {
         return false;
     }
-    if is_named(src, v.start, v.end) {
+    if same_bytes(src, v.start, v.end, b"T", 0, 1) {
         return false;
     }
     if !is_above(table, paths, own) {

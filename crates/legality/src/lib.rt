@@ -1,4 +1,6 @@
 // Is a text a legal archive? It is read, and judged in one walk.
+#![tactic(auto)]
+
 mod bounds;
 mod few;
 pub mod front;
@@ -6,5 +8,4 @@ pub mod hash;
 pub mod legal;
 pub mod open;
 pub mod sizes;
-mod tags;
 pub mod times;

@@ -8,20 +8,19 @@ ghost use Rattle.timestamp.specs.Times.{up_from};
 ghost use Rattle.timestamp.specs.Parse.{numbers_in};
 ghost use Rattle.timestamp.specs.Reading.{start_at};
 ghost use Rattle.versions.specs.Walk.{all_small};
-ghost use Rattle.versions.specs.Sizes.{when_in};
+ghost use Rattle.versions.specs.Sizes.{one as counted, when_in};
 ghost use Rattle.versions.specs.Grown.{Cells, Grown, in_run};
 ghost use Rattle.legality.specs.Measured.{owned, Room, Measured};
 ghost use Rattle.legality.specs.Raised.{Readable};
 ghost use Rattle.versions.specs.Small.{LegalInside, is_small};
 
 use crate::bounds::{bound, bytes_in, nodes_in};
-use crate::tags::tag_counts;
-use xml::compare::text_len;
+use xml::compare::{same_bytes, text_len};
 use xml::tape::{is_run, view_at};
 use xml::text::plain_end;
 
-// What stands in no `T` of some nodes: its nodes and its written bytes. Or the walk has stopped, at an element deeper than it may go or with
-// a ninth attribute, or at a `T` straight in a `T`.
+// What stands in no `T` of some nodes: its nodes and its written bytes. Or the walk has stopped, at an element deeper than it may go or at
+// a `T` straight in a `T`.
 #[derive(Drop)]
 pub struct Own {
     pub nodes: u32,
@@ -105,6 +104,17 @@ fn halted() -> Own
     }
 }
 
+// An element with the name src[a..e] counts for one node, and one named T for none.
+fn one(src: &[u8], a: usize, e: usize) -> u32
+    requires { (a ≤ e) × (e ≤ length src.now) }
+    ensures { result ≡ counted (slice a e src.now) }
+{
+    if same_bytes(src, a, e, b"T", 0, 1) {
+        return 0;
+    }
+    1
+}
+
 // The nodes lo to hi, which a node holds: one run of text that is written as it stands is measured with no walk.
 #[cycle(add_inside_add_node_add_sizes)]
 fn add_inside(
@@ -151,15 +161,12 @@ fn add_node(
         if left == 0 {
             return halted();
         }
-        let t = tag_counts(src, v.start, v.end);
-        if 8 < t.attributes {
-            return halted();
-        }
         let k = add_inside(src, tape, p + 1, v.next, left - 1, false, nodes, bytes);
         if k.stopped {
             return k;
         }
-        return sized(t.nodes + k.nodes, t.bytes + k.bytes);
+        let name = (v.end - v.start) as u32;
+        return sized(one(src, v.start, v.end) + k.nodes, 2 * name + 5 + k.bytes);
     }
     if timed {
         return halted();
@@ -172,7 +179,7 @@ fn add_node(
     sized(0, 0)
 }
 
-// The nodes lo to hi, with elements at most `left` deep, none with a ninth attribute, and no `T` straight in a `T`: so calls are at most 2 * left + 2 deep.
+// The nodes lo to hi, with elements at most `left` deep and no `T` straight in a `T`: so calls are at most 2 * left + 2 deep.
 #[cycle(add_inside_add_node_add_sizes)]
 pub fn add_sizes(
     src: &[u8],

@@ -1,116 +1,176 @@
-// The calls over no table, each with its line.
+// The calls, each writing its line; `room` is the output's length.
 ghost use Rattle.io.specs.Counts.{IsPrefixLen};
 
-use crate::column::{column, number};
-use crate::line::line;
+use crate::line::{line, table_line, version_line};
 use archive::Answer;
 use archive::add::add_version;
-use archive::by_value::step_back;
+use archive::by_value::{Marked, find_mark, set_mark, step_back, step_back_to_mark};
 use archive::check_keys::check_keys;
 use archive::found::found;
 use archive::history::give_history;
 use archive::longest::longest_history;
 use archive::retrieve::retrieve;
-use files::{put, within};
+use files::within;
+use marks::Table;
 use marks::entries::blank;
 
-// Stepping back, with a table of unused entries.
-fn unmarked_back(
+// Checking a key list.
+pub fn checks(name: &[u8], keys: &[u8], work: &mut [u32]) {
+    let answer = check_keys(keys, work);
+    line(name, answer, b"");
+}
+
+// Founding; answers the result's length.
+pub fn founds(
+    name: &[u8],
+    keys: &[u8],
+    version: &[u8],
+    room: usize,
+    out: &mut [u8],
+    work: &mut [u32],
+) -> usize
+    ensures { IsPrefixLen result out.new }
+{
+    let n = within(room, out);
+    let answer = found(keys, version, &mut out[..n], work);
+    line(name, answer, out);
+    within(answer.length, out)
+}
+
+// Adding; answers the result's length.
+pub fn adds(
+    name: &[u8],
+    keys: &[u8],
+    archive: &[u8],
+    version: &[u8],
+    room: usize,
+    out: &mut [u8],
+    work: &mut [u32],
+) -> usize
+    ensures { IsPrefixLen result out.new }
+{
+    let n = within(room, out);
+    let answer = add_version(keys, archive, version, &mut out[..n], work);
+    line(name, answer, out);
+    within(answer.length, out)
+}
+
+// Retrieving.
+pub fn retrieves(
+    name: &[u8],
     keys: &[u8],
     archive: &[u8],
     i: usize,
+    room: usize,
     out: &mut [u8],
     work: &mut [u32],
-) -> Answer {
-    let m = step_back(keys, archive, blank(32), i, out, work);
+) {
+    let n = within(room, out);
+    let answer = retrieve(keys, archive, i, &mut out[..n], work);
+    line(name, answer, out);
+}
+
+// A history.
+pub fn gives_history(
+    name: &[u8],
+    keys: &[u8],
+    archive: &[u8],
+    address: &[u8],
+    room: usize,
+    out: &mut [u8],
+    work: &mut [u32],
+) {
+    let n = within(room, out);
+    let answer = give_history(keys, archive, address, &mut out[..n], work);
+    line(name, answer, out);
+}
+
+// The longest history line.
+pub fn gives_longest(name: &[u8], of: usize, room: usize, out: &mut [u8], work: &mut [u32]) {
+    let n = within(room, out);
+    let answer = longest_history(of, &mut out[..n], work);
+    line(name, answer, out);
+}
+
+// The answer of a call over a table.
+fn answer_of(m: Marked) -> Answer {
     Answer {
         number: m.number,
         length: m.length,
     }
 }
 
-// The answer of a call that asks about an archive.
-fn asked(
-    letter: u8,
-    case: &[u8],
+// Stepping back, with a table of unused entries.
+pub fn steps_back(
+    name: &[u8],
     keys: &[u8],
     archive: &[u8],
+    i: usize,
+    room: usize,
     out: &mut [u8],
     work: &mut [u32],
-) -> Answer {
-    let i = number(case, 3);
-    if letter == b'r' {
-        return retrieve(keys, archive, i, out, work);
-    }
-    if letter == b'h' {
-        return give_history(keys, archive, column(case, 2), out, work);
-    }
-    if letter == b's' {
-        return unmarked_back(keys, archive, i, out, work);
-    }
-    longest_history(i, out, work)
+) {
+    let n = within(room, out);
+    let m = step_back(keys, archive, blank(32), i, &mut out[..n], work);
+    line(name, answer_of(m), out);
 }
 
-// The answer of any call.
-fn called(
-    letter: u8,
-    case: &[u8],
+// Stepping back, with marks.
+pub fn steps_back_marked(
+    name: &[u8],
     keys: &[u8],
     archive: &[u8],
-    text: &[u8],
+    t: Table,
+    i: usize,
+    room: usize,
     out: &mut [u8],
     work: &mut [u32],
-) -> Answer {
-    if letter == b'c' {
-        return check_keys(text, work);
-    }
-    if letter == b'f' {
-        return found(keys, text, out, work);
-    }
-    if letter == b'v' {
-        return add_version(keys, archive, text, out, work);
-    }
-    asked(letter, case, keys, archive, out, work)
+) {
+    let n = within(room, out);
+    let m = step_back(keys, archive, t, i, &mut out[..n], work);
+    let left = m.table;
+    table_line(name, answer_of(m), left, out);
 }
 
-// A call and its line; answers the result's length.
-pub fn call(
-    letter: u8,
-    case: &[u8],
+// Stepping back to a mark.
+pub fn steps_back_to_mark(
+    name: &[u8],
     keys: &[u8],
     archive: &[u8],
-    text: &[u8],
+    t: Table,
+    mark: &[u8],
+    room: usize,
     out: &mut [u8],
     work: &mut [u32],
-) -> usize
-    ensures { IsPrefixLen result out.new }
-{
-    let room = within(number(case, 4), out);
-    let answer = called(letter, case, keys, archive, text, &mut out[..room], work);
-    line(column(case, 1), answer, out);
-    within(answer.length, out)
+) {
+    let n = within(room, out);
+    let m = step_back_to_mark(keys, archive, t, mark, &mut out[..n], work);
+    let left = m.table;
+    table_line(name, answer_of(m), left, out);
 }
 
-// A call whose result is the archive from then on.
-pub fn keep(
-    letter: u8,
-    case: &[u8],
+// Setting a mark; answers the table left.
+pub fn sets(
+    name: &[u8],
     keys: &[u8],
-    archive: &mut [u8],
-    length: usize,
-    text: &[u8],
-    out: &mut [u8],
+    archive: &[u8],
+    t: Table,
+    mark: &[u8],
+    i: usize,
     work: &mut [u32],
-) -> usize
-    ensures { IsPrefixLen result archive.new }
-{
-    let m = within(length, archive);
-    let n = call(letter, case, keys, &archive[..m], text, out, work);
-    put(archive, 0, &out[..n])
+) -> Table {
+    let m = set_mark(keys, archive, t, mark, i, work);
+    let left = m.table;
+    table_line(name, answer_of(m), left, b"");
+    left
 }
 
-// A call with one work cell too few.
-pub fn call_with_few(letter: u8, case: &[u8], keys: &[u8], text: &[u8], out: &mut [u8]) {
-    let mut few = [0u32; 16383];
-    call(letter, case, keys, b"", text, out, &mut few);
+// Finding a mark.
+pub fn finds(name: &[u8], keys: &[u8], archive: &[u8], t: Table, mark: &[u8], work: &mut [u32]) {
+    let f = find_mark(keys, archive, t, mark, work);
+    let answer = Answer {
+        number: f.number,
+        length: f.length,
+    };
+    version_line(name, answer, f.version);
 }

@@ -1,9 +1,6 @@
-// The calls over a table of marks, each with its line, and the tables.
-use crate::column::{column, number};
-use crate::line::{table_line, version_line};
-use archive::Answer;
-use archive::by_value::{Marked, find_mark, set_mark, step_back, step_back_to_mark};
-use files::within;
+// Marks: a full table, names, outputs, and each refusal of a table.
+use crate::calls::{finds, sets, steps_back_marked, steps_back_to_mark};
+use archive::by_value::set_mark;
 use marks::Table;
 use marks::bytes::table_from;
 use marks::entries::blank;
@@ -25,88 +22,180 @@ fn marked(keys: &[u8], archive: &[u8], count: usize, work: &mut [u32]) -> Table 
     t
 }
 
-// A table with an unused entry that is not all zero.
-fn unused() -> Table {
+// Setting in a full table.
+fn full_sets(keys: &[u8], two: &[u8], full: Table, work: &mut [u32]) {
+    sets(b"refusal 16", keys, two, full, b"g", 1, work);
+    sets(b"full, and no version", keys, two, full, b"g", 0, work);
+    sets(b"full, and held", keys, two, full, b"A", 1, work);
+}
+
+// Finding in one.
+fn full_finds(keys: &[u8], two: &[u8], full: Table, work: &mut [u32]) {
+    finds(b"find the first", keys, two, full, b"A", work);
+    finds(b"find the last", keys, two, full, b"f", work);
+    finds(b"find none", keys, two, full, b"g", work);
+}
+
+// Stepping back with one.
+fn full_backs(keys: &[u8], two: &[u8], full: Table, out: &mut [u8], work: &mut [u32]) {
+    steps_back_marked(b"marks kept", keys, two, full, 2, 32768, out, work);
+    steps_back_marked(b"marks dropped", keys, two, full, 1, 32768, out, work);
+}
+
+// The calls with a full table.
+fn full_calls(keys: &[u8], two: &[u8], full: Table, out: &mut [u8], work: &mut [u32]) {
+    full_sets(keys, two, full, work);
+    full_finds(keys, two, full, work);
+    full_backs(keys, two, full, out, work);
+}
+
+// 32 marks, and one more.
+fn counts(keys: &[u8], two: &[u8], out: &mut [u8], work: &mut [u32]) {
+    sets(b"mark 1", keys, two, blank(32), b"A", 2, work);
+    let most = marked(keys, two, 31, work);
+    let full = sets(b"mark 32", keys, two, most, b"f", 1, work);
+    full_calls(keys, two, full, out, work);
+}
+
+// Names of 17 bytes, none, and one that is illegal.
+fn set_names(keys: &[u8], two: &[u8], t: Table, work: &mut [u32]) {
+    sets(b"name of 17", keys, two, t, b"as_commissioned.1", 1, work);
+    sets(b"name of none", keys, two, t, b"", 1, work);
+    sets(b"refusal 15", keys, two, t, b"as commissioned", 1, work);
+}
+
+// A name of 16 bytes found, and not its first 15.
+fn find_names(keys: &[u8], two: &[u8], t: Table, work: &mut [u32]) {
+    finds(
+        b"find a name of 16",
+        keys,
+        two,
+        t,
+        b"as_commissioned.",
+        work,
+    );
+    finds(b"find a name of 15", keys, two, t, b"as_commissioned", work);
+}
+
+// Versions outside 1 to n.
+fn set_outside(keys: &[u8], two: &[u8], t: Table, work: &mut [u32]) {
+    sets(b"mark of n + 1", keys, two, t, b"later", 3, work);
+    sets(b"mark of 0", keys, two, t, b"never", 0, work);
+}
+
+// Names and versions at their limits.
+fn names(keys: &[u8], two: &[u8], work: &mut [u32]) {
+    let t = sets(
+        b"name of 16",
+        keys,
+        two,
+        blank(32),
+        b"as_commissioned.",
+        1,
+        work,
+    );
+    set_names(keys, two, t, work);
+    find_names(keys, two, t, work);
+    set_outside(keys, two, t, work);
+}
+
+// Stepping back to a mark with an output of exactly the result's length, and one byte short.
+fn named_outputs(keys: &[u8], two: &[u8], t: Table, out: &mut [u8], work: &mut [u32]) {
+    steps_back_to_mark(b"back to mark exact", keys, two, t, b"B", 28, out, work);
+    steps_back_to_mark(b"back to mark short", keys, two, t, b"B", 27, out, work);
+}
+
+// The same by number.
+fn marked_outputs(keys: &[u8], two: &[u8], t: Table, out: &mut [u8], work: &mut [u32]) {
+    steps_back_marked(b"marked back exact", keys, two, t, 1, 28, out, work);
+    steps_back_marked(b"marked back short", keys, two, t, 1, 27, out, work);
+}
+
+// Outputs, and a name that is not held before an output that is too short.
+fn outputs(keys: &[u8], two: &[u8], out: &mut [u8], work: &mut [u32]) {
+    let t = marked(keys, two, 2, work);
+    named_outputs(keys, two, t, out, work);
+    marked_outputs(keys, two, t, out, work);
+    steps_back_to_mark(b"back to no mark", keys, two, t, b"C", 0, out, work);
+}
+
+// A mark of version 2, lent with an archive of one version.
+fn late_refusals(keys: &[u8], t: Table, out: &mut [u8], work: &mut [u32]) {
+    let one = b"<T t=\"1\"><s></s></T>";
+    sets(b"refusal 17", keys, one, t, b"", 0, work);
+    finds(b"find refusal 17", keys, one, t, b"A", work);
+    steps_back_marked(b"back refusal 17", keys, one, t, 0, 0, out, work);
+    steps_back_to_mark(b"back to mark refusal 17", keys, one, t, b"", 0, out, work);
+}
+
+// An unused entry that is not all zero.
+fn unused_refusals(keys: &[u8], two: &[u8], work: &mut [u32]) {
     let mut bytes = [0u8; 608];
     bytes[607] = 1;
-    table_from(&bytes)
+    let t = table_from(&bytes);
+    sets(b"last byte 1", keys, two, t, b"A", 1, work);
+    sets(b"archive before table", keys, b"", t, b"A", 1, work);
 }
 
-// Finds a mark.
-fn find(case: &[u8], keys: &[u8], archive: &[u8], t: Table, work: &mut [u32]) {
-    let f = find_mark(keys, archive, t, column(case, 2), work);
-    let answer = Answer {
-        number: f.number,
-        length: f.length,
-    };
-    version_line(column(case, 1), answer, f.version);
+// Tables that are refused.
+fn table_refusals(keys: &[u8], two: &[u8], out: &mut [u8], work: &mut [u32]) {
+    let t = marked(keys, two, 2, work);
+    late_refusals(keys, t, out, work);
+    unused_refusals(keys, two, work);
 }
 
-// What a call that may change the table gives.
-fn changed(
-    letter: u8,
-    case: &[u8],
-    keys: &[u8],
-    archive: &[u8],
-    t: Table,
-    out: &mut [u8],
-    work: &mut [u32],
-) -> Marked {
-    let mark = column(case, 2);
-    let i = number(case, 3);
-    if letter == b'p' {
-        return set_mark(keys, archive, t, mark, i, work);
-    }
-    if letter == b'd' {
-        return step_back(keys, archive, t, i, out, work);
-    }
-    step_back_to_mark(keys, archive, t, mark, out, work)
+// Marks of an archive of two versions.
+pub fn marks(keys: &[u8], out: &mut [u8], work: &mut [u32]) {
+    let two = b"<T t=\"1-2\"><s><T t=\"1\"><f>x</f></T></s></T>";
+    counts(keys, two, out, work);
+    names(keys, two, work);
+    outputs(keys, two, out, work);
+    table_refusals(keys, two, out, work);
 }
 
-// Such a call and its line; answers the table left.
-fn change(
-    letter: u8,
-    case: &[u8],
-    keys: &[u8],
-    archive: &[u8],
-    t: Table,
-    out: &mut [u8],
-    work: &mut [u32],
-) -> Table {
-    let room = within(number(case, 4), out);
-    let m = changed(letter, case, keys, archive, t, &mut out[..room], work);
-    let answer = Answer {
-        number: m.number,
-        length: m.length,
-    };
-    let left = m.table;
-    table_line(column(case, 1), answer, left, out);
-    left
+// Marks of the last versions of an archive of 999.
+fn last_sets(keys: &[u8], archive: &[u8], work: &mut [u32]) -> Table {
+    let one = sets(
+        b"mark of 998",
+        keys,
+        archive,
+        blank(32),
+        b"new-lens",
+        998,
+        work,
+    );
+    let two = sets(b"mark of 999", keys, archive, one, b"new-lamp", 999, work);
+    sets(b"mark of 1,000", keys, archive, two, b"newer", 1000, work);
+    two
 }
 
-// A case over a table; answers the table from then on, which only setting a mark changes.
-pub fn mark_case(
-    letter: u8,
-    case: &[u8],
-    keys: &[u8],
-    archive: &[u8],
-    t: Table,
-    out: &mut [u8],
-    work: &mut [u32],
-) -> Table {
-    if letter == b'y' {
-        return marked(keys, archive, number(case, 3), work);
-    }
-    if letter == b'u' {
-        return unused();
-    }
-    if letter == b'q' {
-        find(case, keys, archive, t, work);
-        return t;
-    }
-    let left = change(letter, case, keys, archive, t, out, work);
-    if letter == b'p' {
-        return left;
-    }
-    t
+// Stepping back to them.
+fn last_backs(keys: &[u8], archive: &[u8], t: Table, out: &mut [u8], work: &mut [u32]) {
+    steps_back_to_mark(
+        b"back to the mark of 999",
+        keys,
+        archive,
+        t,
+        b"new-lamp",
+        32768,
+        out,
+        work,
+    );
+    steps_back_to_mark(
+        b"back to the mark of 998",
+        keys,
+        archive,
+        t,
+        b"new-lens",
+        32768,
+        out,
+        work,
+    );
+}
+
+// Marks of an archive of 999 versions.
+pub fn last_marks(keys: &[u8], archive: &[u8], out: &mut [u8], work: &mut [u32]) {
+    let t = last_sets(keys, archive, work);
+    finds(b"find 999", keys, archive, t, b"new-lamp", work);
+    last_backs(keys, archive, t, out, work);
 }

@@ -1,4 +1,6 @@
 // Named versions: a table of 32 marks, each a name of 1 to 16 bytes and the number of a version.
+#![tactic(auto)]
+
 pub mod by_value;
 pub mod bytes;
 pub mod change;

@@ -1,1 +1,2 @@
 // The theory of keyed versions: definitions and theorems alone.
+#![tactic(auto)]

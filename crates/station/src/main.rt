@@ -1,4 +1,6 @@
 // The watchroom's command: the calls on files, the result on standard output, a table of marks in its file.
+#![tactic(auto)]
+
 mod ask;
 mod number;
 mod table;

@@ -1,4 +1,6 @@
 // Timestamps: sets of the version numbers 1 to 999, and their text. A set is passed as one value of sixteen words, a bit a version.
+#![tactic(auto)]
+
 pub mod change;
 pub mod text;
 pub mod write;

@@ -8,12 +8,14 @@ use Rattle.xml.specs.Forest.{Forest, end, elem, text, stamp, write, nodes, join,
 use Rattle.xml.specs.Over.{Wrote}
 use Rattle.xml.specs.OverLaws.{wrote_none, wrote_then}
 use Rattle.xml.specs.Tape.{next_at, head_at, Tape, at-end, at-text, at-elem, at-stamp, Valid, Writes}
-use Rattle.xml.specs.TapeLaws.{bytes_at, tape-le, tape-none, split}
+use Rattle.xml.specs.TapeLaws.{bytes_at, tape-le, tape-none, tape-size, split}
 use Rattle.xml.specs.Complete.{join-assoc}
+use Rattle.keys.specs.Legal.{untimed}
 use Rattle.timestamp.specs.Times.{Times, write_times}
 use Rattle.versions.specs.Walk.{times_in, newest, add_branch, add_bare, add_content}
 use Rattle.versions.specs.Sizes.{nodes-join, write-join}
 use Rattle.versions.specs.AddParts.{LegalSet, BranchesIn, no-branch, branch, FrontIn}
+use Rattle.versions.specs.AddTurns.{untimed-size}
 
 -- ---- forests one after the other
 module _ {out mid left : List ℕ} {at to r : ℕ} where
@@ -82,7 +84,7 @@ module _ {n : ℕ} {src cells : List ℕ} {p q : ℕ} where
       go : {f : Forest} → Tape src cells p q f → FrontIn n f → p < q → SomeBranches n src cells p q
       go (at-end e) y l = absurd (omega arith)
       go (at-text d u e r) y l = absurd (omega (arith, d.kind-is, k))
-      go (at-elem d i r) y l = absurd (omega (arith, d.node.kind-is, k))
+      go (at-elem d i r) y l = absurd (omega (arith, d.kind-is, k))
       go (at-stamp d i r) y l = record { forest = _; tape = at-stamp d i r; legal = y }
 
 -- ---- contents in their `T`s, on the way: those before node p are written as they stood
@@ -169,5 +171,9 @@ module _ {src cells : List ℕ} {lo hi : ℕ} (n : ℕ) (t : Times) (v : Forest)
   unfolding add_content
   content-timed (at-end e) l h g = absurd (omega arith)
   content-timed (at-text d u e r) l h g = absurd (omega (arith, d.kind-is))
-  content-timed (at-elem d i r) l h g = absurd (omega (arith, d.node.kind-is))
+  content-timed (at-elem d i r) l h g = absurd (omega (arith, d.kind-is))
   content-timed (at-stamp d i r) l h g = (refl, g)
+
+-- a version's content has a node for each of the tape's
+pub plain-count : {src cells : List ℕ} {lo hi : ℕ} {v : Forest} → Tape src cells lo hi v → untimed v ≡ true → nodes v ≡ hi - lo
+plain-count {lo = lo} {v = v} h u = untimed-size v u ∙ omega (arith, tape-size h)

@@ -3,12 +3,13 @@ use Rattle.std.specs.Prelude.{ℕ, ◌+◌, ◌-◌, ◌≤◌, ◌≡◌, Bool,
 use Rattle.std.proofs.Math.Option.{Option, none, some}
 use Rattle.std.proofs.Math.Seq.{slice}
 use Rattle.xml.specs.Bytes.{Bytes}
-use Rattle.xml.specs.Forest.{Forest, end, elem, text, stamp}
-use Rattle.xml.specs.Tape.{Tagged, next_at, Node, Tape}
+use Rattle.xml.specs.Forest.{Forest, end, elem, text, stamp, write, nodes}
+use Rattle.xml.specs.Tape.{next_at, Node, Tape}
 use Rattle.xml.specs.TapeLaws.{opening, closing}
 use Rattle.model.specs.Orders.{labels}
 use Rattle.keys.specs.KeyList.{Path, KeyList, above, key_names_at}
-use Rattle.keys.specs.Version.{◌▸◌, Label, is_bare}
+use Rattle.keys.specs.Version.{◌▸◌, Label}
+use Rattle.keys.specs.Legal.{untimed}
 use Rattle.keys.specs.Labelled.{has_keys}
 use Rattle.keys.specs.Ranks.{rank}
 use Rattle.timestamp.specs.Times.{Times, write_times}
@@ -92,15 +93,15 @@ FrontIn n (stamp s k r) = BranchesIn n (stamp s k r)
 -- siblings in an element of path p
 pub data SiblingsIn (K : KeyList) (n : ℕ) : Path → Forest → Type 0 where
   no-sibling : {p : Path} → SiblingsIn K n p end
-  bare : {p : Path} {m : Bytes} {k r : Forest} → is_bare m ≡ true → has_keys (key_names_at K (p ▸ m)) k ≡ true → (above K (p ▸ m) ≡ true → SiblingsIn K n (p ▸ m) k)
+  bare : {p : Path} {m : Bytes} {k r : Forest} → has_keys (key_names_at K (p ▸ m)) k ≡ true → (above K (p ▸ m) ≡ true → SiblingsIn K n (p ▸ m) k)
       → (above K (p ▸ m) ≡ false → FrontIn n k) → SiblingsIn K n p r → SiblingsIn K n p (elem m k r)
-  timed : {p : Path} {s m : Bytes} {k r : Forest} → LegalSet n s → is_bare m ≡ true → has_keys (key_names_at K (p ▸ m)) k ≡ true → (above K (p ▸ m) ≡ true → SiblingsIn K n (p ▸ m) k)
+  timed : {p : Path} {s m : Bytes} {k r : Forest} → LegalSet n s → has_keys (key_names_at K (p ▸ m)) k ≡ true → (above K (p ▸ m) ≡ true → SiblingsIn K n (p ▸ m) k)
       → (above K (p ▸ m) ≡ false → FrontIn n k) → SiblingsIn K n p r → SiblingsIn K n p (stamp s (elem m k end) r)
 
 -- and of a version
 pub data VersionIn (K : KeyList) : Path → Forest → Type 0 where
   no-element : {p : Path} → VersionIn K p end
-  element : {p : Path} {m : Bytes} {k r : Forest} → is_bare m ≡ true → has_keys (key_names_at K (p ▸ m)) k ≡ true
+  element : {p : Path} {m : Bytes} {k r : Forest} → untimed (elem m k end) ≡ true → has_keys (key_names_at K (p ▸ m)) k ≡ true
       → (above K (p ▸ m) ≡ true → VersionIn K (p ▸ m) k) → VersionIn K p r → VersionIn K p (elem m k r)
 
 -- ---- on the tape
@@ -117,6 +118,6 @@ Outer src cells p (some s) = Node src cells p 2 s
 pub record At (src cells : List ℕ) (p : ℕ) (o : Option Bytes) (m : Bytes) (k : Forest) : Type 0 where
   pub here : Tape src cells p (next_at cells p) (sibling o m k)
   pub outer : Outer src cells p o
-  pub node : Tagged src cells (place_in o p) m
+  pub node : Node src cells (place_in o p) 1 m
   pub inner : Tape src cells (place_in o p + 1) (next_at cells (place_in o p)) k
   pub ends : next_at cells (place_in o p) ≡ next_at cells p

@@ -1,21 +1,38 @@
 -- Adding a version, one turn: which sibling comes next, what the tapes say of it, and what is left to add.
-use Rattle.std.specs.Prelude.{ℕ, ◌+◌, ◌<◌, ◌≡◌, true, false, List}
+use Rattle.std.specs.Prelude.{ℕ, ◌+◌, ◌<◌, ◌≡◌, Bool, true, false, ◌&&◌, not, List}
 use Rattle.std.proofs.Common.{arith, sym, ◌∙◌}
 use Rattle.std.proofs.Math.Path.{refl, ap}
 use Rattle.std.proofs.Math.Option.{Option, none, some}
 use mathlib.Core.Ordering.{Ordering, lt, eq, gt}
-use Rattle.xml.specs.Bytes.{Bytes, same}
-use Rattle.xml.specs.Forest.{Forest, end, elem, nodes, join}
-use Rattle.xml.specs.Tape.{Tagged, next_at, Tape, at-end, at-elem, at-stamp}
+use Rattle.xml.specs.Bytes.{Bytes, bytes, same}
+use Rattle.xml.specs.Forest.{Forest, end, elem, text, stamp, nodes, join}
+use Rattle.xml.specs.Tape.{next_at, Node, Tape, at-end, at-elem, at-stamp, size}
+use Rattle.xml.specs.Truth.{clash, and_left, and_right}
 use Rattle.model.specs.Keyed.{three}
 use Rattle.model.specs.Orders.{labels}
 use Rattle.keys.specs.KeyList.{Path, KeyList, above, key_names_at}
-use Rattle.keys.specs.Version.{◌▸◌, is_bare, label, name_in}
+use Rattle.keys.specs.Version.{◌▸◌, label, name_in}
+use Rattle.keys.specs.Legal.{untimed}
 use Rattle.keys.specs.Labelled.{has_keys}
 use Rattle.keys.specs.Ranks.{rank, rank-eq}
 use Rattle.timestamp.specs.Times.{Times}
 use Rattle.versions.specs.Walk.{first_label, newest, add_new, add_at, add_in}
 use Rattle.versions.specs.AddParts.{sibling, set_in, old_part, both_part, inside, order_of, SetOf, FrontIn, SiblingsIn, no-sibling, bare, timed, VersionIn, no-element, element, At}
+
+-- ---- content that is not timed: each node of the tape counts
+pub untimed-size : (f : Forest) → untimed f ≡ true → nodes f ≡ size f
+unfolding untimed nodes size
+untimed-size end e = refl
+untimed-size (text b r) e = ap (λ x. 1 + x) (untimed-size r e)
+untimed-size (elem m k r) e =
+    let h : (not (same m (bytes "T")) && untimed k) ≡ true = and_left (not (same m (bytes "T")) && untimed k) (untimed r) e in
+    go (same m (bytes "T")) (and_left (not (same m (bytes "T"))) (untimed k) h) (untimed-size k (and_right (not (same m (bytes "T"))) (untimed k) h))
+    (untimed-size r (and_right (not (same m (bytes "T")) && untimed k) (untimed r) e))
+  where
+    go : (b : Bool) → not b ≡ true → nodes k ≡ size k → nodes r ≡ size r → elim b as (λ _. ℕ) [ true ↦ 0 | false ↦ 1 ] + nodes k + nodes r ≡ 1 + size k + size r
+    go true h x y = clash (sym h)
+    go false h x y = omega arith
+untimed-size (stamp t k r) e = clash (sym e)
 
 -- ---- the archive's next sibling
 pub record First (K : KeyList) (n : ℕ) (w : Path) (src cells : List ℕ) (p hi : ℕ) (f : Forest) : Type 0 where
@@ -27,7 +44,6 @@ pub record First (K : KeyList) (n : ℕ) (w : Path) (src cells : List ℕ) (p hi
   pub at : At src cells p own name kids
   pub after : Tape src cells (next_at cells p) hi rest
   pub set : SetOf n own
-  pub bare : is_bare name ≡ true
   pub keys : has_keys (key_names_at K (w ▸ name)) kids ≡ true
   pub siblings : above K (w ▸ name) ≡ true → SiblingsIn K n (w ▸ name) kids
   pub front : above K (w ▸ name) ≡ false → FrontIn n kids
@@ -37,10 +53,10 @@ pub first-sibling : {K : KeyList} {n : ℕ} {w : Path} {src cells : List ℕ} {p
     → First K n w src cells p hi f
 unfolding join
 first-sibling (at-end e) no-sibling l = absurd (omega arith)
-first-sibling (at-elem {n = m} {k = k} {r = r} d i a) (bare b h s g o) l =
-    record { own = none; name = m; kids = k; rest = r; is = refl; at = record { here = at-elem d i (at-end refl); outer = tt; node = d; inner = i; ends = refl }; after = a; set = tt; bare = b; keys = h; siblings = s; front = g; others = o }
-first-sibling {src = src} {cells = cells} {p = p} (at-stamp {t = s} {r = r} d (at-elem {n = m} {k = k} j i (at-end e)) a) (timed c b h x g o) l =
-    record { own = some s; name = m; kids = k; rest = r; is = refl; at = record { here = at-stamp d (at-elem j i (at-end e)) (at-end refl); outer = d; node = j; inner = i; ends = e }; after = a; set = c; bare = b; keys = h; siblings = x; front = g; others = o }
+first-sibling (at-elem {n = m} {k = k} {r = r} d i a) (bare h s g o) l =
+    record { own = none; name = m; kids = k; rest = r; is = refl; at = record { here = at-elem d i (at-end refl); outer = tt; node = d; inner = i; ends = refl }; after = a; set = tt; keys = h; siblings = s; front = g; others = o }
+first-sibling {src = src} {cells = cells} {p = p} (at-stamp {t = s} {r = r} d (at-elem {n = m} {k = k} b i (at-end e)) a) (timed c h x g o) l =
+    record { own = some s; name = m; kids = k; rest = r; is = refl; at = record { here = at-stamp d (at-elem b i (at-end e)) (at-end refl); outer = d; node = b; inner = i; ends = e }; after = a; set = c; keys = h; siblings = x; front = g; others = o }
 
 -- ---- the version's next element
 pub record Next (K : KeyList) (w : Path) (src cells : List ℕ) (q hi : ℕ) (v : Forest) : Type 0 where
@@ -49,18 +65,18 @@ pub record Next (K : KeyList) (w : Path) (src cells : List ℕ) (q hi : ℕ) (v 
   pub rest : Forest
   pub is : v ≡ elem name kids rest
   pub here : Tape src cells q (next_at cells q) (elem name kids end)
-  pub node : Tagged src cells q name
+  pub node : Node src cells q 1 name
   pub inner : Tape src cells (q + 1) (next_at cells q) kids
   pub after : Tape src cells (next_at cells q) hi rest
-  pub bare : is_bare name ≡ true
+  pub plain : untimed (elem name kids end) ≡ true
   pub keys : has_keys (key_names_at K (w ▸ name)) kids ≡ true
   pub version : above K (w ▸ name) ≡ true → VersionIn K (w ▸ name) kids
   pub others : VersionIn K w rest
 
 pub next-element : {K : KeyList} {w : Path} {src cells : List ℕ} {q hi : ℕ} {v : Forest} → Tape src cells q hi v → VersionIn K w v → q < hi → Next K w src cells q hi v
 next-element (at-end e) no-element l = absurd (omega arith)
-next-element (at-elem {n = m} {k = k} {r = r} d i a) (element b h x o) l =
-    record { name = m; kids = k; rest = r; is = refl; here = at-elem d i (at-end refl); node = d; inner = i; after = a; bare = b; keys = h; version = x; others = o }
+next-element (at-elem {n = m} {k = k} {r = r} d i a) (element u h x o) l =
+    record { name = m; kids = k; rest = r; is = refl; here = at-elem d i (at-end refl); node = d; inner = i; after = a; plain = u; keys = h; version = x; others = o }
 
 -- ---- one turn
 three-lt : {X : Type 0} (o : Ordering) (x y z : X) → rank o ≡ 0 → three o x y z ≡ x
@@ -102,7 +118,7 @@ module _ (K : KeyList) (n : ℕ) (w : Path) (t : Times) (o : Option Bytes) (m : 
       → add_in K n w t (join (sibling o m k) r) v ≡ join (old_part t o m k) (add_in K n w t r v)
   unfolding add_at first_label
   turn-old no-element e = in-sibling end
-  turn-old (element {m = j} {k = g} {r = s} b h x y) e = in-sibling (elem j g s) ∙ three-lt (labels.cmp (label K w m k) (label K w j g)) _ _ _ e
+  turn-old (element {m = j} {k = g} {r = s} u h x y) e = in-sibling (elem j g s) ∙ three-lt (labels.cmp (label K w m k) (label K w j g)) _ _ _ e
 
   -- both have it
   pub turn-both : (j : Bytes) (g s : Forest) → rank (labels.cmp (label K w m k) (label K w j g)) ≡ 1
@@ -126,7 +142,7 @@ pub add-new : (K : KeyList) (n : ℕ) (w : Path) (j : Bytes) (g s : Forest) → 
 unfolding add_new newest join
 add-new K n w j g s = refl
 
-pub nodes-new : {K : KeyList} (n : ℕ) {w : Path} {v : Forest} → VersionIn K w v → nodes (add_new K n w v) ≡ nodes v
-unfolding add_new newest nodes
+pub nodes-new : {K : KeyList} (n : ℕ) {w : Path} {v : Forest} → VersionIn K w v → nodes (add_new K n w v) ≡ size v
+unfolding add_new newest nodes size
 nodes-new n no-element = refl
-nodes-new {K} n {w} (element {m = m} {k = k} {r = r} b h x o) = omega (arith, nodes-new n o)
+nodes-new {K} n {w} (element {m = m} {k = k} {r = r} u h x o) = let e : nodes (elem m k end) ≡ size (elem m k end) = untimed-size (elem m k end) u in omega (arith, e, nodes-new n o)

@@ -8,19 +8,20 @@ use Rattle.xml.specs.Bytes.{Bytes}
 use Rattle.xml.specs.Forest.{Forest, end, elem, stamp, write, nodes, join}
 use Rattle.xml.specs.Over.{Wrote}
 use Rattle.xml.specs.OverLaws.{wrote_none, wrote_then}
-use Rattle.xml.specs.Tape.{Tagged, next_at, head_at, Node, Tape}
+use Rattle.xml.specs.Tape.{next_at, head_at, Node, Tape}
 use Rattle.xml.specs.TapeLaws.{Front, front, opening, closing, tape-le, tape-none}
 use Rattle.xml.specs.Complete.{join-assoc}
 use Rattle.xml.specs.Truth.{by-test}
 use Rattle.model.specs.Orders.{labels}
 use Rattle.keys.specs.KeyList.{Path, KeyList, above, key_names_at}
-use Rattle.keys.specs.Version.{◌▸◌, Label, is_bare, label}
+use Rattle.keys.specs.Version.{◌▸◌, Label, label}
+use Rattle.keys.specs.Legal.{untimed}
 use Rattle.keys.specs.Labelled.{has_keys}
 use Rattle.keys.specs.Ranks.{rank}
 use Rattle.keys.specs.Table.{place_of, Table}
 use Rattle.timestamp.specs.Times.{Times}
 use Rattle.versions.specs.Walk.{first_label, newest, add_new}
-use Rattle.versions.specs.AddParts.{Says, sibling, set_in, old_part, both_part, opened, closed, order_of, SetOf, FrontIn, SiblingsIn, VersionIn, place_in, At}
+use Rattle.versions.specs.AddParts.{Says, sibling, set_in, old_part, both_part, opened, closed, order_of, SetOf, FrontIn, SiblingsIn, VersionIn, element, place_in, At}
 use Rattle.versions.specs.HistoryTape.{element_at, element-timed, element-bare}
 use Rattle.versions.specs.AddTurns.{Next, next-element, add-new}
 use Rattle.versions.specs.AddFront.{wrote-join, join-end}
@@ -31,7 +32,7 @@ module _ {src cells : List ℕ} {p : ℕ} {o : Option Bytes} {m : Bytes} {k : Fo
   timed-by e f = go o a e f
     where
       go : (o : Option Bytes) → At src cells p o m k → head_at cells p % 4 ≡ 2 → ((s : Bytes) → Node src cells p 2 s → P (some s)) → P o
-      go none a e f = absurd (omega (arith, a.node.node.kind-is))
+      go none a e f = absurd (omega (arith, a.node.kind-is))
       go (some s) a e f = f s a.outer
 
   pub bare-by : (head_at cells p % 4 ≡ 2 → ⊥) → P none → P o
@@ -62,6 +63,7 @@ pub record Held (text : Bytes) (table : List ℕ) (n-paths place : ℕ) (src cel
   pub siblings : above K w ≡ true → SiblingsIn K n w f
   pub front : above K w ≡ false → FrontIn n f
   pub version : above K w ≡ true → VersionIn K w v
+  pub plain : untimed v ≡ true
   pub set : Says n src a e t
 
 pub record SomeHeld (text : Bytes) (table : List ℕ) (n-paths place : ℕ) (src cells : List ℕ) (lo hi : ℕ) (vsrc vcells : List ℕ) (vlo vhi n a e : ℕ) : Type 0 where
@@ -81,9 +83,10 @@ pub record Both (text : Bytes) (table : List ℕ) (n-paths place : ℕ) (src cel
   pub own-set : SetOf n o
   pub siblings : above K (w ▸ m) ≡ true → SiblingsIn K n (w ▸ m) k
   pub front : above K (w ▸ m) ≡ false → FrontIn n k
-  pub vnode : Tagged vsrc vcells q m
+  pub vnode : Node vsrc vcells q 1 m
   pub vinner : Tape vsrc vcells (q + 1) (next_at vcells q) g
   pub version : above K (w ▸ m) ≡ true → VersionIn K (w ▸ m) g
+  pub plain : untimed g ≡ true
   pub set : Says n src a e t
 
 pub record SomeBoth (text : Bytes) (table : List ℕ) (n-paths place : ℕ) (src cells : List ℕ) (p : ℕ) (vsrc vcells : List ℕ) (q n a e : ℕ) : Type 0 where
@@ -106,7 +109,6 @@ pub record SomeNext (text : Bytes) (table : List ℕ) (n-paths place : ℕ) (src
   pub kids : Forest
   pub place_is : place_of key_list (path ▸ name) ≡ place
   pub at : At src cells p own name kids
-  pub bare : is_bare name ≡ true
   pub keys : has_keys (key_names_at key_list (path ▸ name)) kids ≡ true
   pub other : Forest
   pub vtape : Tape vsrc vcells q vhi other

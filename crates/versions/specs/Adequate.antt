@@ -1,16 +1,17 @@
 -- What the archive of legal versions is and gives: it is what document 01's paragraph says, the archive of the first i is the archive cut
 -- back to i, and histories are the sets of versions that hold the address.
-use Rattle.std.specs.Prelude.{ℕ, zero, suc, ◌+◌, ◌≤◌, ◌<◌, ◌≡◌, Bool, true, not, ◌&&◌, take}
+use Rattle.std.specs.Prelude.{ℕ, zero, suc, ◌+◌, ◌≤◌, ◌<◌, ◌≡◌, Bool, true, not, ◌&&◌, ◌||◌, take}
 use Rattle.std.proofs.Common.{arith, ◌∙◌}
 use Rattle.std.proofs.Math.Path.{refl, sym, ap, ap₂, subst}
 use Rattle.std.proofs.Math.Bool.{false}
 use mathlib.Core.List.{List, [], ◌∷◌, ◌++◌, map}
-use borrow.Author.Tests.{le-ltb}
+use borrow.Author.Tests.{ltb-false, le-ltb}
 use Rattle.std.proofs.Math.Dec.{ltb}
 use Rattle.std.proofs.Math.ListN.{length, length-map}
 use Rattle.std.proofs.Math.Seq.{length-take-le}
 use Rattle.xml.specs.Bytes.{Bytes}
-use Rattle.xml.specs.Forest.{Forest, write, nodes}
+use Rattle.xml.specs.Forest.{Forest, write, nodes, depth}
+use Rattle.xml.specs.Truth.{or_left}
 use Rattle.model.specs.Gather.{All}
 use Rattle.model.specs.Keyed
 use Rattle.model.specs.Keyed.{Tree, Ascending}
@@ -22,14 +23,13 @@ use Rattle.model.specs.Theorems.{archive-cut, archive-history}
 use Rattle.keys.specs.KeyList.{KeyList, key_list, rules_kept}
 use Rattle.keys.specs.Result.{Result, ok}
 use Rattle.keys.specs.KeyListLaws.{rules-kept}
-use Rattle.keys.specs.Version.{Label}
-use Rattle.keys.specs.Versions.{small-parts}
+use Rattle.keys.specs.Version.{Label, too_large}
 use Rattle.keys.specs.Address.{holds, steps_known}
 use Rattle.keys.specs.Tree.{Content, contents, keyed}
 use Rattle.keys.specs.Legal.{LegalVersion}
 use Rattle.keys.specs.TreeParts.{tree-height}
 use Rattle.keys.specs.HoldsLaws.{holds-tree}
-use Rattle.versions.specs.Archive.{archive, archive_direct, archive_of, archive_text}
+use Rattle.versions.specs.Archive.{Archive, archive, archive_direct, archive_forest, archive_of, archive_text}
 use Rattle.versions.specs.NodesBack.{nodes-back}
 use Rattle.versions.specs.BackLength.{length_back}
 use Rattle.versions.specs.LegalLaws.{all-trees, all-ascend, all-legal, legal-of, archive-legal}
@@ -42,7 +42,10 @@ map-take f (suc i) (x ∷ xs) = ap (λ t. f x ∷ t) (map-take f i xs)
 
 module _ (keys : Bytes) (K : KeyList) (k : key_list keys ≡ ok K) where
   low : (v : Forest) → LegalVersion K v → height (keyed K [] v) ≤ 16
-  low v h = omega (arith, (small-parts v h.small).0, tree-height K [] v)
+  unfolding too_large
+  low v h =
+      let d : depth v ≤ 16 = ltb-false 16 (depth v) (or_left (ltb 16 (depth v)) _ (or_left (ltb 16 (depth v) || ltb 512 (nodes v)) _ h.small)) in
+      omega (arith, tree-height K [] v)
 
   all-low : (vs : List Forest) → All (LegalVersion K) vs → All (λ t. height t ≤ 16) (map (keyed K []) vs)
   all-low [] h = tt

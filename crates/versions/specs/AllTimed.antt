@@ -11,14 +11,13 @@ use Rattle.model.specs.Keyed.{nil, node, any, WFBy}
 use Rattle.model.specs.Orders.{labels}
 use Rattle.model.specs.Groups.{Groups, WFG}
 use Rattle.model.specs.Stored.{mask_g, length-mask_g, WFS}
-use Rattle.xml.specs.Tags.{named_t}
-use Rattle.xml.specs.Bytes.{Bytes, all, same}
+use Rattle.xml.specs.Bytes.{Bytes, bytes, all, same}
 use Rattle.xml.specs.BytesLaws.{same-is}
 use Rattle.xml.specs.Forest.{Forest, end, elem, text, stamp, join, nodes}
 use Rattle.xml.specs.Read.{is_end}
 use Rattle.xml.specs.Truth.{bool_by, and_left, and_right, both_true}
-use Rattle.keys.specs.KeyList.{Path, KeyList, above, key_names_at}
-use Rattle.keys.specs.Version.{◌▸◌, name_in, label, called, is_one_value, placed}
+use Rattle.keys.specs.KeyList.{Path, KeyList, above, listed, key_names_at}
+use Rattle.keys.specs.Version.{◌▸◌, name_in, label, called, is_one_value}
 use Rattle.keys.specs.Tree.{Content, inner, front, contents}
 use Rattle.keys.specs.Legal.{untimed, Kind, Lawful}
 use Rattle.timestamp.specs.Times.{Times, same_times, always, write_times, last_number}
@@ -49,8 +48,8 @@ timed-front n end u = tt
 timed-front n (text b r) u = timed-front n r u
 timed-front n (stamp s k r) u = absurd (clash u refl)
 timed-front n (elem m k r) u = (
-  timed-front n k (and_right (not (named_t m)) _ (and_left (not (named_t m) && untimed k) _ u)),
-  timed-front n r (and_right (not (named_t m) && untimed k) _ u),
+  timed-front n k (and_right (not (same m (bytes "T"))) _ (and_left (not (same m (bytes "T")) && untimed k) _ u)),
+  timed-front n r (and_right (not (same m (bytes "T")) && untimed k) _ u),
 )
 
 -- the text of a set
@@ -123,7 +122,7 @@ module _ (n : ℕ) where
   timed-siblings K p t (elem m k r) h =
       let h3 = both_true _ (siblings_legal K n p t r) h in
       let h2 = both_true _ (precedes (some (label K p m k)) (first_label K p r)) h3.0 in
-      let h1 = both_true (placed K p m && not (named_t m)) _ h2.0 in
+      let h1 = both_true (listed K (p ▸ m) && not (same m (bytes "T"))) _ h2.0 in
       (go (above K (p ▸ m)) (λ x. timed-siblings K (p ▸ m) t k x) h1.1, timed-siblings K p t r h3.1)
     where
       go : (c : Bool) → (siblings_legal K n (p ▸ m) t k ≡ true → AllTimed n k)

@@ -9,8 +9,7 @@ use Rattle.model.specs.Keyed.{any, nil}
 use Rattle.model.specs.Groups.{Groups, cons_if, cut_g, WFG}
 use Rattle.model.specs.GroupLaws.{groups}
 use Rattle.model.specs.Stored.{mask_g}
-use Rattle.xml.specs.Tags.{named_t}
-use Rattle.xml.specs.Bytes.{Bytes}
+use Rattle.xml.specs.Bytes.{Bytes, bytes, same}
 use Rattle.xml.specs.Forest.{Forest, end, elem, text, stamp, join}
 use Rattle.xml.specs.Truth.{bool_by, and_left, and_right}
 use Rattle.keys.specs.Tree.{Content, inner, front, contents, held_by}
@@ -61,8 +60,8 @@ back-untimed i around end u = refl
 back-untimed i around (text b r) u = ap (text b) (back-untimed i around r u)
 back-untimed i around (stamp s k r) u = absurd (clash u refl)
 back-untimed i around (elem m k r) u =
-    ap₂ (elem m) (back-untimed i around k (and_right (not (named_t m)) _ (and_left (not (named_t m) && untimed k) _ u)))
-    (back-untimed i around r (and_right (not (named_t m) && untimed k) _ u))
+    ap₂ (elem m) (back-untimed i around k (and_right (not (same m (bytes "T"))) _ (and_left (not (same m (bytes "T")) && untimed k) _ u)))
+    (back-untimed i around r (and_right (not (same m (bytes "T")) && untimed k) _ u))
 
 -- contents in an element that stands in the versions `around`, each in its `T` unless it has them all
 unfoldable spread : Times → Groups Content → Forest

@@ -68,7 +68,7 @@ module _ (i : ℕ) (around : Times) where
     element = λ b k. simp (append-nil, append_assoc);
   }
 
-  pub back-length : {src cells : List ℕ} {p q : ℕ} (x : Timely i src cells p q) → length (back_text i around x.forest) ≤ 196640 * (q - p)
+  pub back-length : {src cells : List ℕ} {p q : ℕ} (x : Timely i src cells p q) → length (back_text i around x.forest) ≤ 163840 * (q - p)
   unfolding back_text
   back-length x = omega (arith, length-in x.last i around x.forest x.reach x.small x.timed, length-write x.tape)
 

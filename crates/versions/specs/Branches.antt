@@ -7,9 +7,9 @@ use Rattle.std.proofs.Math.Bool.{and-false, not}
 use borrow.Author.Tests.{le-leb, lt-leb, lt-ltb, le-ltb, eqb-true, eqb-false}
 use Rattle.xml.specs.Bytes.{Bytes}
 use Rattle.xml.specs.Forest.{Forest, end, elem, text, stamp, join, same_forest}
-use Rattle.xml.specs.Read.{unescape, tag_of}
+use Rattle.xml.specs.Read.{unescape}
 use Rattle.xml.specs.Tape.{head_at, next_at, Tape, at-end, at-text, at-elem, at-stamp}
-use Rattle.xml.specs.TapeLaws.{bytes_at, tape-le, tape-none, tape-join, front, tagged_is}
+use Rattle.xml.specs.TapeLaws.{bytes_at, tape-le, tape-none, tape-join, front}
 use Rattle.xml.specs.Truth.{by-test, clash, not_so, and_left, and_right, or-first, or-second}
 use Rattle.keys.specs.Legal.{untimed}
 use Rattle.timestamp.specs.Set.{set_of, empty_set, up_to, joined, same_set, apart, subset, first_in}
@@ -24,7 +24,7 @@ pub record First (src cells : List ℕ) (p q : ℕ) (f : Forest) : Type 0 where
   pub inside : Tape src cells (p + 1) (next_at cells p) kids
   pub after : Tape src cells (next_at cells p) q rest
   pub run : head_at cells p % 4 ≡ 0 → f ≡ text (unescape 0 (bytes_at src cells p)) rest
-  pub element : head_at cells p % 4 ≡ 1 → f ≡ elem (tag_of (bytes_at src cells p)) kids rest
+  pub element : head_at cells p % 4 ≡ 1 → f ≡ elem (bytes_at src cells p) kids rest
   pub timed : head_at cells p % 4 ≡ 2 → f ≡ stamp (bytes_at src cells p) kids rest
 
 module _ {src cells : List ℕ} where
@@ -46,9 +46,9 @@ module _ {src cells : List ℕ} where
         rest = g;
         inside = k;
         after = r;
-        run = λ k. absurd (omega (arith, n.node.kind-is));
-        element = λ k. rw (tagged_is n) refl;
-        timed = λ k. absurd (omega (arith, n.node.kind-is));
+        run = λ k. absurd (omega (arith, n.kind-is));
+        element = λ k. rw n.bytes-are refl;
+        timed = λ k. absurd (omega (arith, n.kind-is));
       }
   first (at-stamp {k = f} {r = g} n k r) l =
       record {
@@ -75,7 +75,7 @@ module _ {src cells : List ℕ} where
   unfolding first
   alone (at-end e) l k = absurd (omega arith)
   alone (at-text n u e r) l k = absurd (omega (arith, n.kind-is))
-  alone (at-elem n i r) l k = absurd (omega (arith, n.node.kind-is))
+  alone (at-elem n i r) l k = absurd (omega (arith, n.kind-is))
   alone (at-stamp n i r) l k = rw n.bytes-are (at-stamp n i (at-end refl))
 
   pub repeats-first : {p q : ℕ} {f : Forest} (k : Forest) (t : Tape src cells p q f) (l : p < q) → repeats k f ≡ (same_forest k (first t l).kids || repeats k (first t l).rest)

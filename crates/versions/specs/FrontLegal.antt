@@ -2,9 +2,7 @@
 use Rattle.std.specs.Prelude.{ℕ, suc, ◌≤◌, ◌≡◌, refl, true, false, not, ◌&&◌, List, [], ◌∷◌, leb, length}
 use Rattle.std.proofs.Common.{arith, sym, ◌∙◌, ap, ap₂, subst, leb-true, le-leb}
 use Rattle.std.proofs.lemmas.Bool.{not-true}
-use Rattle.xml.specs.TagLaws.{written-version}
-use Rattle.xml.specs.Tags.{named_t}
-use Rattle.xml.specs.Bytes.{Bytes}
+use Rattle.xml.specs.Bytes.{Bytes, bytes, same}
 use Rattle.xml.specs.BytesLaws.{same-is}
 use Rattle.xml.specs.Forest.{Forest, end, elem, text, stamp, same_forest, Tidy}
 use Rattle.model.specs.Keyed.{any}
@@ -32,8 +30,8 @@ unfolding untimed
 tidy-untimed end h u = tt
 tidy-untimed (text b r) h u = (h.0, h.1, h.2, tidy-untimed r h.3 u)
 tidy-untimed (elem m k r) h u =
-    let v = and_left (not (named_t m) && untimed k) (untimed r) u in
-    (written-version h.0, tidy-untimed k h.1 (and_right (not (named_t m)) (untimed k) v), tidy-untimed r h.2 (and_right (not (named_t m) && untimed k) (untimed r) u))
+    let v = and_left (not (same m (bytes "T")) && untimed k) (untimed r) u in
+    (h.0, tidy-untimed k h.1 (and_right (not (same m (bytes "T"))) (untimed k) v), tidy-untimed r h.2 (and_right (not (same m (bytes "T")) && untimed k) (untimed r) u))
 tidy-untimed (stamp s k r) h u = absurd (clash u refl)
 
 -- ---- contents in their `T`s, and their groups

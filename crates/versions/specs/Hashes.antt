@@ -2,27 +2,19 @@
 use Prim.Native.Nat.{ℕ, zero, suc, ◌+◌, ◌-◌, ◌*◌, ◌%◌, ◌≤◌, ◌<◌}
 use native.Mathlib.Omega.{arith}
 use Rattle.std.proofs.Common.{add-one, sym, ◌∙◌, length-drop, take-append-drop, drop-cons, take-suc-set}
-use Rattle.std.specs.Prelude.{◌≡◌, Bool, not, ◌&&◌, eqb, length, take, drop, get_or, set}
+use Rattle.std.specs.Prelude.{◌≡◌, Bool, not, ◌&&◌, List, [], ◌∷◌, ◌++◌, eqb, length, take, drop, get_or, set}
 use Rattle.std.proofs.Math.Path.{refl, ap, ap₂}
 use Rattle.std.proofs.Math.Bool.{true, false}
-use mathlib.Core.List.{List, [], ◌∷◌, ◌++◌, map}
 use borrow.Author.Tests.{eq-eqb, ne_eqb, not-true, not-false}
 use Rattle.std.proofs.Math.Seq.{slice, slice_empty}
 use Rattle.xml.specs.Bytes.{Bytes}
 use Rattle.xml.specs.BytesLaws.{forest-is}
 use Rattle.xml.specs.Forest.{Forest, end, elem, text, stamp, join, same_forest}
-use Rattle.xml.specs.Grammar.{StartTag}
-use Rattle.xml.specs.Read.{unescape, means}
+use Rattle.xml.specs.Read.{unescape}
 use Rattle.xml.specs.SignLaws.{Meant}
-use Rattle.xml.specs.TagLaws.{start-meant}
-use Rattle.xml.specs.TagParts.{IsTag}
-use Rattle.xml.specs.TagPlaces.{Reached, PartIn, tag-first, none_left}
-use Rattle.xml.specs.TagSums.{sum_of}
-use Rattle.xml.specs.Tags.{Attr, attr, name_of, parts}
 use Rattle.xml.specs.Tape.{head_at, next_at, Tape, at-end, at-text, at-elem, at-stamp, size}
 use Rattle.xml.specs.TapeLaws.{bytes_at, tape-none, tape-size, tape-join, tape-one, front, split, inner-node}
 use Rattle.xml.specs.Truth.{by-test, not_so, and_left, and_right}
-use Rattle.xml.specs.declared.tag.Part.{Part}
 use Rattle.xml.specs.declared.text.Sign.{Sign}
 use Rattle.keys.specs.Legal.{untimed}
 use Rattle.timestamp.specs.Set.{joined, first_in}
@@ -38,23 +30,11 @@ unfoldable pub folded : ℕ → Bytes → ℕ
 folded h [] = h
 folded h (b ∷ s) = folded (mixed h b) s
 
--- the hash of an attribute: its name and its value, folded
-unfoldable pub attr_hash : Attr → ℕ
-attr_hash (attr n v) = folded (folded 0 n) v
-
--- the sum of the hashes of what a tag's attributes mean, which is the same in any order
-unfoldable pub attrs_hash : Bytes → ℕ
-attrs_hash t = sum_of attr_hash (map means (parts 0 t))
-
--- a tag folded into a hash
-abbrev pub folded_tag : ℕ → Bytes → ℕ
-folded_tag h t = (h + attrs_hash t) % 65536
-
--- the hash of a forest, going on from h: its nodes in order by their kinds, elements with their attributes, runs of text with their bytes
+-- the hash of a forest, going on from h: its nodes in order by their kinds, runs of text with their bytes
 unfoldable pub hash_from : ℕ → Forest → ℕ
 hash_from h end = h
 hash_from h (text b r) = hash_from (folded (mixed h 0) b) r
-hash_from h (elem n k r) = hash_from (hash_from (folded_tag (mixed h 1) n) k) r
+hash_from h (elem n k r) = hash_from (hash_from (mixed h 1) k) r
 hash_from h (stamp t k r) = hash_from (hash_from (mixed h 2) k) r
 
 -- h is the hash of whichever forest the nodes lo to hi are
@@ -83,34 +63,13 @@ pub fold_over : (src : Bytes) (e h : ℕ) → folded h (unescape 0 (slice e e sr
 unfolding folded unescape
 fold_over src e h = rw (slice_empty e src)
 
--- ---- a tag
--- its attributes mean what those of its raw bytes do
-spelled-hash : {w n t : Bytes} → StartTag false w n t → attrs_hash w ≡ attrs_hash t
-unfolding attrs_hash sum_of
-spelled-hash s = sym (start-meant (sum_of attr_hash) (λ x k. attr_hash x + k) (λ x l. refl) (λ x y k. omega arith) s)
-
--- by places: all of them stand after the name; the first at a place, and those after it; and none at the end
-module _ {s : Bytes} where
-  pub attrs-start : {i : ℕ} → IsTag s → i ≡ length (name_of s) → attrs_hash s ≡ attrs_hash (drop i s)
-  unfolding attrs_hash
-  attrs-start t e = rw e (ap (λ (l : List Attr). sum_of attr_hash (map means l)) (tag-first t))
-
-  pub attrs-next : {i : ℕ} {g : Part} → PartIn s i g
-      → attrs_hash (drop i s) ≡ folded (folded 0 (slice (i + 1) g.equals s)) (unescape 0 (slice (g.equals + 2) g.end s)) + attrs_hash (drop (g.end + 1) s)
-  unfolding attrs_hash sum_of attr_hash means
-  attrs-next p = ap (λ (l : List Attr). sum_of attr_hash (map means l)) p.first
-
-  pub attrs-end : {i : ℕ} → Reached s i → length s ≤ i → attrs_hash (drop i s) ≡ 0
-  unfolding attrs_hash sum_of
-  attrs-end x h = ap (λ (l : List Attr). sum_of attr_hash (map means l)) (none_left x h)
-
 -- ---- nodes
 -- a node of this kind, named by these bytes, folded into a hash
 unfoldable pub hash_node : ℕ → Bytes → ℕ → ℕ
 hash_node kind b h =
     elim (eqb kind 0) [
       | true ↦ folded (mixed h 0) (unescape 0 b)
-      | false ↦ elim (eqb kind 1) [ true ↦ folded_tag (mixed h 1) b | false ↦ mixed h 2 ]
+      | false ↦ elim (eqb kind 1) [ true ↦ mixed h 1 | false ↦ mixed h 2 ]
     ]
 
 module _ (kind : ℕ) (b : Bytes) (h : ℕ) where
@@ -118,7 +77,7 @@ module _ (kind : ℕ) (b : Bytes) (h : ℕ) where
   unfolding hash_node
   node-run e = rw (eq-eqb kind 0 e, hash_node)
 
-  pub node-element : kind ≡ 1 → hash_node kind b h ≡ folded_tag (mixed h 1) b
+  pub node-element : kind ≡ 1 → hash_node kind b h ≡ mixed h 1
   unfolding hash_node
   node-element e = rw (ne_eqb kind 0 (λ z. omega arith), eq-eqb kind 1 e, hash_node)
 
@@ -130,9 +89,9 @@ module _ (kind : ℕ) (b : Bytes) (h : ℕ) where
   unfolding hash_node
   node-small = at (eqb kind 0) (eqb kind 1)
     where
-      at : (x y : Bool) → elim x [ true ↦ folded (mixed h 0) (unescape 0 b) | false ↦ elim y [ true ↦ folded_tag (mixed h 1) b | false ↦ mixed h 2 ] ] < 65536
+      at : (x y : Bool) → elim x [ true ↦ folded (mixed h 0) (unescape 0 b) | false ↦ elim y [ true ↦ mixed h 1 | false ↦ mixed h 2 ] ] < 65536
       at true y = folded-small (mixed h 0) (unescape 0 b) (mixed-small h 0)
-      at false true = omega arith
+      at false true = mixed-small h 1
       at false false = mixed-small h 2
 
 -- ---- along a tape
@@ -179,10 +138,10 @@ module _ {src cells : List ℕ} where
       let y : 1 + size r ≡ suc (size r) = omega arith in
       let z : hash_node (head_at cells p % 4) (bytes_at src cells p) h ≡ folded (mixed h 0) b = node-run (head_at cells p % 4) (bytes_at src cells p) h n.kind-is ∙ ap (λ (s : Bytes). folded (mixed h 0) (unescape 0 s)) n.bytes-are ∙ ap (folded (mixed h 0)) u in
       rw y (ap (hash_along src cells (size r) (p + 1)) z ∙ along-forest (folded (mixed h 0) b) t)
-  along-forest {p} h (at-elem {n = b} {k = k} {r = r} n i t) =
-      let z = node-element (head_at cells p % 4) (bytes_at src cells p) h n.node.kind-is ∙ ap (λ (x : ℕ). (mixed h 1 + x) % 65536) (ap attrs_hash n.node.bytes-are ∙ spelled-hash n.start) in
+  along-forest {p} h (at-elem {k = k} {r = r} n i t) =
+      let z = node-element (head_at cells p % 4) (bytes_at src cells p) h n.kind-is in
       along-node p h r i ∙ ap (λ (x : ℕ). hash_along src cells (size r) (next_at cells p) (hash_along src cells (size k) (p + 1) x)) z
-      ∙ ap (hash_along src cells (size r) (next_at cells p)) (along-forest (folded_tag (mixed h 1) b) i) ∙ along-forest (hash_from (folded_tag (mixed h 1) b) k) t
+      ∙ ap (hash_along src cells (size r) (next_at cells p)) (along-forest (mixed h 1) i) ∙ along-forest (hash_from (mixed h 1) k) t
   along-forest {p} h (at-stamp {k = k} {r = r} n i t) =
       let z = node-timed (head_at cells p % 4) (bytes_at src cells p) h (λ y. omega (arith, n.kind-is)) (λ y. omega (arith, n.kind-is)) in
       along-node p h r i ∙ ap (λ (x : ℕ). hash_along src cells (size r) (next_at cells p) (hash_along src cells (size k) (p + 1) x)) z

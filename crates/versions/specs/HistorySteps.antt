@@ -5,20 +5,18 @@ use Rattle.std.proofs.Common.{◌∙◌, subst}
 use Rattle.std.proofs.Math.Bool.{true, false, not}
 use Rattle.std.proofs.Math.Option.{Option, none, some}
 use mathlib.Core.Ordering.{Ordering, lt, eq, gt}
-use Rattle.xml.specs.Tags.{named_t}
-use Rattle.xml.specs.Bytes.{Bytes, all, same}
+use Rattle.xml.specs.Bytes.{Bytes, bytes, all, same}
 use Rattle.xml.specs.Forest.{Forest, end, elem, text, stamp}
 use Rattle.xml.specs.Read.{is_end}
 use Rattle.xml.specs.Truth.{and_left, and_right, both_true}
 use Rattle.model.specs.Masks.{clash}
 use Rattle.model.specs.Orders.{labels, is_eq, is_lt, of-is_eq}
-use Rattle.keys.specs.KeyList.{Path, KeyList, above, key_names_at}
+use Rattle.keys.specs.KeyList.{Path, KeyList, listed, above, key_names_at}
 use Rattle.keys.specs.KeyListLaws.{front-bare}
-use Rattle.keys.specs.Version.{◌▸◌, Label, is_bare, called, is_one_value, same_label, before, label, placed}
+use Rattle.keys.specs.Version.{◌▸◌, Label, called, is_one_value, same_label, before, label}
 use Rattle.keys.specs.Labelled.{has_keys}
 use Rattle.timestamp.specs.Times.{Times, same_times}
 use Rattle.versions.specs.Walk.{times_in, canonical, ever, within, front_legal, is_sole, first_label, precedes, siblings_legal, or_else, history_in}
-use Rattle.versions.specs.LegalSteps.{element_legal, element-alone}
 
 -- the rest of an address in the element that it has come to: its path is p, and the nearest `T` has the text `around`
 abbrev pub inside : KeyList → Path → Bytes → List Label → Forest → Option Bytes
@@ -46,7 +44,6 @@ precedes-on a b (some c) e h = ap is_lt (labels.trans (of-is_lt (labels.cmp a b)
 -- ---- what legal siblings are
 -- an element m that holds k, in the versions t, before the siblings r
 pub record ElementLegal (K : KeyList) (n : ℕ) (p : Path) (t : Times) (m : Bytes) (k r : Forest) : Type 0 where
-  pub bare : is_bare m ≡ true
   pub once : has_keys (key_names_at K (p ▸ m)) k ≡ true
   pub below : above K (p ▸ m) ≡ true → siblings_legal K n (p ▸ m) t k ≡ true
   pub ahead : precedes (some (label K p m k)) (first_label K p r) ≡ true
@@ -62,12 +59,12 @@ module _ (K : KeyList) (n : ℕ) (p : Path) (t : Times) where
   keys-held m k false b h = (rw (front-bare K (p ▸ m) b) refl, λ a. absurd (clash a b))
 
   pub element-legal : (m : Bytes) (k r : Forest) → siblings_legal K n p t (elem m k r) ≡ true → ElementLegal K n p t m k r
-  unfolding siblings_legal element_legal
+  unfolding siblings_legal
   element-legal m k r h =
       let h3 = both_true _ (siblings_legal K n p t r) h in
       let h2 = both_true _ (precedes (some (label K p m k)) (first_label K p r)) h3.0 in
-      let h1 = keys-held m k (above K (p ▸ m)) refl (and_right (placed K p m && not (named_t m)) _ h2.0) in
-      record { bare = element-alone K n p t m k h2.0; once = h1.0; below = h1.1; ahead = h2.1; rest = h3.1 }
+      let h1 = keys-held m k (above K (p ▸ m)) refl (and_right (listed K (p ▸ m) && not (same m (bytes "T"))) _ h2.0) in
+      record { once = h1.0; below = h1.1; ahead = h2.1; rest = h3.1 }
 
   -- a `T` around k, before the siblings r
   pub stamp-legal : (s : Bytes) (k r : Forest) → siblings_legal K n p t (stamp s k r) ≡ true

@@ -8,11 +8,11 @@ use borrow.Author.Tests.{eq-eqb, ne_eqb}
 use Rattle.std.proofs.Math.Dec.{eqb}
 use Rattle.xml.specs.Bytes.{Bytes}
 use Rattle.xml.specs.Forest.{Forest, end, elem, text, stamp}
-use Rattle.xml.specs.Tape.{Tagged, head_at, next_at, end_in, Node, Tape, at-end, at-text, at-elem, at-stamp}
+use Rattle.xml.specs.Tape.{head_at, next_at, end_in, Node, Tape, at-end, at-text, at-elem, at-stamp}
 use Rattle.xml.specs.TapeLaws.{bytes_at, tape-le, tape-none, front}
 use Rattle.model.specs.Masks.{clash}
 use Rattle.keys.specs.KeyList.{Path, KeyList, above, key_names_at}
-use Rattle.keys.specs.Version.{◌▸◌, Label, is_bare, name_in, same_label, label}
+use Rattle.keys.specs.Version.{◌▸◌, Label, name_in, same_label, label}
 use Rattle.keys.specs.Labelled.{has_keys}
 use Rattle.timestamp.specs.Times.{Times}
 use Rattle.versions.specs.Walk.{times_in, siblings_legal, history_in}
@@ -41,11 +41,10 @@ pub record Sibling (src cells : List ℕ) (K : KeyList) (n : ℕ) (q : Path) (t 
   pub kids : Forest
   pub rest : Forest
   pub own : Times
-  pub node : Tagged src cells (element_at cells p) name
+  pub node : Node src cells (element_at cells p) 1 name
   pub tape : Tape src cells (element_at cells p + 1) (next_at cells (element_at cells p)) kids
   pub next : next_at cells (element_at cells p) ≡ next_at cells p
   pub after : Tape src cells (next_at cells p) hi rest
-  pub bare : is_bare name ≡ true
   pub once : has_keys (key_names_at K (q ▸ name)) kids ≡ true
   pub below : above K (q ▸ name) ≡ true → siblings_legal K n (q ▸ name) own kids ≡ true
   pub legal : siblings_legal K n q t rest ≡ true
@@ -54,13 +53,13 @@ pub record Sibling (src cells : List ℕ) (K : KeyList) (n : ℕ) (q : Path) (t 
       → history_in K q around l ls f ≡ inside K (q ▸ name) (near_at src cells p around) ls kids
 
 module _ {src cells : List ℕ} (K : KeyList) (n : ℕ) (q : Path) (t : Times) {p hi : ℕ} where
-  element-sibling : (m : Bytes) (k r : Forest) → Tagged src cells p m → Tape src cells (p + 1) (next_at cells p) k → Tape src cells (next_at cells p) hi r
+  element-sibling : (m : Bytes) (k r : Forest) → Node src cells p 1 m → Tape src cells (p + 1) (next_at cells p) k → Tape src cells (next_at cells p) hi r
       → siblings_legal K n q t (elem m k r) ≡ true → Sibling src cells K n q t p hi (elem m k r)
   unfolding near_at
   element-sibling m k r d x y h =
       let g = element-legal K n q t m k r h in
-      let b : eqb (head_at cells p % 4) 2 ≡ false = ne_eqb (head_at cells p % 4) 2 (omega (arith, d.node.kind-is)) in
-      let e = element-bare cells p (λ z. omega (arith, d.node.kind-is)) in
+      let b : eqb (head_at cells p % 4) 2 ≡ false = ne_eqb (head_at cells p % 4) 2 (omega (arith, d.kind-is)) in
+      let e = element-bare cells p (λ z. omega (arith, d.kind-is)) in
       record {
         name = m;
         kids = k;
@@ -70,7 +69,6 @@ module _ {src cells : List ℕ} (K : KeyList) (n : ℕ) (q : Path) (t : Times) {
         tape = rw e x;
         next = ap (next_at cells) e;
         after = y;
-        bare = g.bare;
         once = g.once;
         below = g.below;
         legal = g.rest;
@@ -94,7 +92,6 @@ module _ {src cells : List ℕ} (K : KeyList) (n : ℕ) (q : Path) (t : Times) {
         tape = rw e x;
         next = ap (next_at cells) e ∙ z;
         after = y;
-        bare = g.0.bare;
         once = g.0.once;
         below = g.0.below;
         legal = g.2;

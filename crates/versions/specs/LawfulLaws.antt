@@ -1,15 +1,13 @@
 -- Laws of lawful trees, over what an entry is: key children follow key children, and lawful roots have one label.
-use Rattle.std.specs.Prelude.{◌≡◌, refl, true, false}
+use Rattle.std.specs.Prelude.{◌≡◌, refl, true}
 use Rattle.std.proofs.Common.{sym, ◌∙◌, subst}
 use Rattle.std.proofs.Math.Path.{ap}
 use Rattle.std.proofs.Math.Option.{Option}
 use mathlib.Core.List.{List, [], ◌∷◌}
-use Rattle.xml.specs.Truth.{and_left}
-use Rattle.xml.specs.Tags.{Written}
-use Rattle.xml.specs.TagLaws.{written-some}
+use Rattle.model.specs.Masks.{clash}
 use Rattle.model.specs.Keyed.{Tree, node, look}
 use Rattle.model.specs.Orders.{labels}
-use Rattle.xml.specs.Bytes.{Bytes}
+use Rattle.xml.specs.Bytes.{Bytes, is_name}
 use Rattle.keys.specs.KeyList.{KeyList, rules_kept, contexts_in_notation, listed}
 use Rattle.keys.specs.RootLaws.{root-label, root-bare}
 use Rattle.keys.specs.Version.{Label, name_in}
@@ -38,9 +36,9 @@ unfolding KeyChildren
 no-values KE [] e k x = refl
 no-values KE (v ∷ vs) e k x = absurd x
 
-parts : (l : Label) → Written false (name_in l) → l ≡ name_in l ∷ values_in l
-unfolding name_in values_in
-parts [] e = absurd (written-some e refl)
+parts : (l : Label) → is_name (name_in l) ≡ true → l ≡ name_in l ∷ values_in l
+unfolding is_name name_in values_in
+parts [] e = absurd (clash e refl)
 parts (n ∷ vs) e = refl
 
 module _ (K : KeyList) (kept : rules_kept K ≡ true) (notation : contexts_in_notation K ≡ true) where
@@ -49,8 +47,8 @@ module _ (K : KeyList) (kept : rules_kept K ≡ true) (notation : contexts_in_no
       → Lawful K II IF KE [] (node l e k r) → (l ≡ name_in l ∷ []) × (listed K (name_in l ∷ []) ≡ true)
   unfolding Lawful
   root_is II IF KE l e k r x = (
-    parts l x.0 ∙ ap (λ vs. name_in l ∷ vs) (no-values KE (values_in l) e k (subst (λ ns. KeyChildren KE ns (values_in l) e k) (root-bare K (name_in l) kept notation (and_left (listed K (name_in l ∷ [])) _ x.2)) x.4)),
-    and_left (listed K (name_in l ∷ [])) _ x.2,
+    parts l x.0 ∙ ap (λ vs. name_in l ∷ vs) (no-values KE (values_in l) e k (subst (λ ns. KeyChildren KE ns (values_in l) e k) (root-bare K (name_in l) kept notation x.2) x.4)),
+    x.2,
   )
 
   pub root-same : {E F : Type 0} (IE JE : E → Type 0) (KE : E → Bytes → Option E → Type 0) (IF JF : F → Type 0) (KF : F → Bytes → Option F → Type 0)

@@ -7,7 +7,7 @@ use Rattle.std.proofs.Math.Option.{Option, none, some}
 use Rattle.xml.specs.Bytes.{Bytes, same}
 use Rattle.xml.specs.Truth.{clash, and_left}
 use Rattle.xml.specs.Forest.{Forest, end, elem, stamp}
-use Rattle.xml.specs.Tape.{Tagged, next_at, Node, Tape, at-end, at-text, at-elem, at-stamp}
+use Rattle.xml.specs.Tape.{next_at, Node, Tape, at-end, at-text, at-elem, at-stamp}
 use Rattle.xml.specs.TapeLaws.{tape-le, tape-none}
 use Rattle.keys.specs.KeyList.{Path, KeyList}
 use Rattle.keys.specs.Version.{Label, label}
@@ -16,14 +16,14 @@ use Rattle.versions.specs.Walk.{times_in, canonical, ever, within, is_sole, firs
 use Rattle.versions.specs.HistorySteps.{sole-is}
 use Rattle.versions.specs.HistoryTape.{element_at, element-timed, element-bare}
 use Rattle.versions.specs.LegalTimes.{own_legal, own_times}
-use Rattle.versions.specs.LegalSteps.{element_legal, LastIs, no_last, last-is, element-alone, element-once}
+use Rattle.versions.specs.LegalSteps.{element_legal, LastIs, no_last, last-is, element-once}
 
 -- ---- one sibling, the first of f
 pub record Sib (src cells : List ℕ) (K : KeyList) (n : ℕ) (q : Path) (t : Times) (p hi : ℕ) (f : Forest) : Type 0 where
   pub name : Bytes
   pub kids : Forest
   pub rest : Forest
-  pub node : Tagged src cells (element_at cells p) name
+  pub node : Node src cells (element_at cells p) 1 name
   pub tape : Tape src cells (element_at cells p + 1) (next_at cells (element_at cells p)) kids
   pub after : Tape src cells (next_at cells p) hi rest
   pub low : p ≤ element_at cells p
@@ -58,7 +58,7 @@ module _ {src cells : List ℕ} (K : KeyList) (n : ℕ) (q : Path) (t : Times) {
   sib (at-end e) b o = absurd (omega arith)
   sib (at-text d u e r) b o = clash (sym o)
   sib (at-elem {n = m} {k = k} {r = r} d x y) b o =
-      let e = element-bare cells p (λ z. omega (arith, d.node.kind-is)) in
+      let e = element-bare cells p (λ z. omega (arith, d.kind-is)) in
       record {
         name = m;
         kids = k;
@@ -132,7 +132,7 @@ module _ {src cells : List ℕ} {K : KeyList} {n : ℕ} {q : Path} {t : Times} w
             left = the-sib.rest;
             tape = the-sib.after;
             before-it = some (label K q the-sib.name the-sib.kids);
-            last_one = last-is (omega (arith, the-sib.inside, tape-le the-sib.tape)) the-sib.node (element-alone K n q (own_times n t x.left) the-sib.name the-sib.kids h) the-sib.tape (element-once K n q (own_times n t x.left) the-sib.name the-sib.kids h);
+            last_one = last-is (omega (arith, the-sib.inside, tape-le the-sib.tape)) the-sib.node the-sib.tape (element-once K n q (own_times n t x.left) the-sib.name the-sib.kids h);
             same = x.same ∙ ap₂ (λ y z. y && z) (ap (precedes x.before-it) the-sib.first-is ∙ g)
                 (the-sib.legal ∙ ap (λ z. z && precedes (some (label K q the-sib.name the-sib.kids)) (first_label K q the-sib.rest) && siblings_legal K n q t the-sib.rest) h);
           }

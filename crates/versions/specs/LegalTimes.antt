@@ -101,7 +101,7 @@ module _ {src cells : List ℕ} where
   unfolding is_sole
   sole-other (at-end e) l = refl
   sole-other (at-text d u e r) l = refl
-  sole-other (at-elem d k r) l = absurd (l d.node.kind-is)
+  sole-other (at-elem d k r) l = absurd (l d.kind-is)
   sole-other (at-stamp d k r) l = refl
 
   pub sole-one : {p q : ℕ} {f : Forest} → Tape src cells p q f → p < q → head_at cells p % 4 ≡ 1 → is_sole f ≡ eqb (next_at cells p) q
@@ -138,7 +138,7 @@ module _ {src cells : List ℕ} (n : ℕ) (t : ℕ → Bool) (o : Only n t) {p q
   own_bare r (at-text i u e a) l k z d =
       let w : r.ok ≡ false = d ∙ ne_eqb (head_at cells p % 4) 1 (λ y. absurd (omega (arith, i.kind-is))) in
       record { ok-is = w; only = λ x. clash (sym x ∙ w); own = λ x. clash (sym x ∙ w) }
-  own_bare r (at-elem i a b) l k z d = record { ok-is = d ∙ eq-eqb (head_at cells p % 4) 1 i.node.kind-is; only = λ x. rw z o; own = λ x. ap (listed n) z }
+  own_bare r (at-elem i a b) l k z d = record { ok-is = d ∙ eq-eqb (head_at cells p % 4) 1 i.kind-is; only = λ x. rw z o; own = λ x. ap (listed n) z }
   own_bare r (at-stamp i a b) l k z d = absurd (k i.kind-is)
 
   -- a `T` that is around more or less than an element
@@ -146,7 +146,7 @@ module _ {src cells : List ℕ} (n : ℕ) (t : ℕ → Bool) (o : Only n t) {p q
   unfolding own_legal own_times
   own-crowd r (at-end e) l k z d = absurd (omega arith)
   own-crowd r (at-text i u e a) l k z d = absurd (omega (arith, i.kind-is))
-  own-crowd r (at-elem i a b) l k z d = absurd (omega (arith, i.node.kind-is))
+  own-crowd r (at-elem i a b) l k z d = absurd (omega (arith, i.kind-is))
   own-crowd r (at-stamp {t = s} {k = g} i a b) l k z d =
       record {
         ok-is = d ∙ sym (ap (λ x. x && canonical n s && ever (times_in n s) && within (times_in n s) (listed n t) && not (same_times (times_in n s) (listed n t))) (z g a));
@@ -159,7 +159,7 @@ module _ {src cells : List ℕ} (n : ℕ) (t : ℕ → Bool) (o : Only n t) {p q
   unfolding own_legal own_times times_legal
   own-timed r (at-end e) l k z d = absurd (omega arith)
   own-timed r (at-text i u e a) l k z d = absurd (omega (arith, i.kind-is))
-  own-timed r (at-elem i a b) l k z d = absurd (omega (arith, i.node.kind-is))
+  own-timed r (at-elem i a b) l k z d = absurd (omega (arith, i.kind-is))
   own-timed r (at-stamp {t = s} {k = g} i a b) l k z d =
       record {
         ok-is = d.ok-is ∙ ap (times_legal n (listed n t)) i.bytes-are

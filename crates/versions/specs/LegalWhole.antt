@@ -5,17 +5,15 @@ use Rattle.std.proofs.Math.Path.{refl, sym, ap}
 use Rattle.std.proofs.Math.Option.{some}
 use mathlib.Core.List.{List, []}
 use borrow.Author.Tests.{not-true, leb-true, lt-leb, le-leb}
-use Rattle.xml.specs.TagLaws.{not_T}
-use Rattle.xml.specs.Tags.{named_t}
-use Rattle.xml.specs.Bytes.{Bytes, same, all}
+use Rattle.xml.specs.Bytes.{Bytes, bytes, same, all}
 use Rattle.xml.specs.Forest.{Forest, end, elem, text, stamp, nodes}
 use Rattle.xml.specs.Read.{is_end}
 use Rattle.xml.specs.Fits.{misnamed}
 use Rattle.xml.specs.Tape.{head_at, next_at, Tape, at-end, at-text, at-elem, at-stamp, Valid}
 use Rattle.xml.specs.TapeLaws.{bytes_at, tape-le, tape-none}
 use Rattle.xml.specs.Truth.{by-test, clash, not_so, both_true, and_both, and_left, and_right}
-use Rattle.keys.specs.KeyList.{Path, KeyList, above, key_names_at}
-use Rattle.keys.specs.Version.{◌▸◌, label, called, is_one_value, placed}
+use Rattle.keys.specs.KeyList.{Path, KeyList, listed, above, key_names_at}
+use Rattle.keys.specs.Version.{◌▸◌, label, called, is_one_value}
 use Rattle.keys.specs.Legal.{untimed}
 use Rattle.keys.specs.Loading.{Tabled}
 use Rattle.keys.specs.PlaceLaws.{place-root}
@@ -32,9 +30,9 @@ unfolding untimed misnamed
 named-untimed end h = refl
 named-untimed (text b r) h = named-untimed r h
 named-untimed (elem m k r) h =
-    let h2 = both_true (not (named_t m) && untimed k) (untimed r) h in
-    let h1 = both_true (not (named_t m)) (untimed k) h2.0 in
-    rw (not_T m (not-true (named_t m) h1.0)) (omega (arith, named-untimed k h1.1, named-untimed r h2.1))
+    let h2 = both_true (not (same m (bytes "T")) && untimed k) (untimed r) h in
+    let h1 = both_true (not (same m (bytes "T"))) (untimed k) h2.0 in
+    rw (not-true (same m (bytes "T")) h1.0) (omega (arith, named-untimed k h1.1, named-untimed r h2.1))
 named-untimed (stamp s k r) h = clash (sym h)
 
 named-timed : (n : ℕ) (f : Forest) → all_timed n f ≡ true → misnamed f ≡ 0
@@ -64,9 +62,9 @@ named-siblings K n p t (text b r) h = clash (sym h)
 named-siblings K n p t (elem m k r) h =
     let h3 = both_true _ (siblings_legal K n p t r) h in
     let h2 = both_true _ (precedes (some (label K p m k)) (first_label K p r)) h3.0 in
-    let h1 = both_true (placed K p m && not (named_t m)) _ h2.0 in
+    let h1 = both_true (listed K (p ▸ m) && not (same m (bytes "T"))) _ h2.0 in
     let z = go (above K (p ▸ m)) (λ x. named-siblings K n (p ▸ m) t k x) h1.1 in
-    rw (not_T m (not-true (named_t m) (and_right (placed K p m) (not (named_t m)) h1.0))) (omega (arith, z, named-siblings K n p t r h3.1))
+    rw (not-true (same m (bytes "T")) (and_right (listed K (p ▸ m)) (not (same m (bytes "T"))) h1.0)) (omega (arith, z, named-siblings K n p t r h3.1))
   where
     go : (c : Bool) → (siblings_legal K n (p ▸ m) t k ≡ true → misnamed k ≡ 0)
         → elim c as (λ _. Bool) [ true ↦ all (λ key. is_one_value (called key k)) (key_names_at K (p ▸ m)) && siblings_legal K n (p ▸ m) t k | false ↦ front_legal n t k ] ≡ true → misnamed k ≡ 0
@@ -160,14 +158,6 @@ outer-parts : (s : Bytes) (k r : Forest) → (outer_of (stamp s k r) ≡ 0 → �
 unfolding outer_of
 outer-parts s k r e =
     by-test (is_end r) (λ a. by-test (is_outer s) (λ o. (a, o, rw (a, outer_of) (outer-yes s o))) (λ o. absurd (e (rw (a, outer_of) (outer-no s o))))) (λ a. absurd (e (rw (a, outer_of))))
-
--- what it holds counts for no more than it does
-pub inside-nodes : (f : Forest) → (outer_of f ≡ 0 → ⊥) → nodes (inside_of f) ≤ nodes f
-unfolding outer_of inside_of nodes
-inside-nodes end e = absurd (e refl)
-inside-nodes (text b r) e = absurd (e refl)
-inside-nodes (elem m k r) e = absurd (e refl)
-inside-nodes (stamp s k r) e = omega arith
 
 -- its n is at most 999
 pub outer-of-most : (f : Forest) → outer_of f ≤ 999
@@ -282,7 +272,7 @@ module _ {src cells : List ℕ} where
   unfolding outer_of is_end
   outer-is (at-end e) l k h = absurd (omega arith)
   outer-is (at-text d u e r) l k h = absurd (omega (arith, d.kind-is))
-  outer-is (at-elem d i r) l k h = absurd (omega (arith, d.node.kind-is))
+  outer-is (at-elem d i r) l k h = absurd (omega (arith, d.kind-is))
   outer-is (at-stamp d i r) l k h = let z = tape-none (rw h at r) in rw (z, outer_of) (ap outer_last (sym d.bytes-are))
 
   -- its inside

@@ -1,7 +1,6 @@
 pub mod Archive
 pub mod Calls
 pub mod Station
-pub mod Noted
 pub mod Shelf
 pub mod Walk
 pub mod Lawful

@@ -3,9 +3,8 @@ use Rattle.std.specs.Prelude.{ℕ, ◌+◌, ◌≤◌, ◌≡◌, refl, Bool, []
 use Rattle.std.proofs.Common.{arith, sym}
 use Rattle.std.proofs.Math.Path.{subst}
 use Rattle.std.proofs.Math.Bool.{true, false}
-use Rattle.xml.specs.Bytes.{Bytes}
+use Rattle.xml.specs.Bytes.{Bytes, bytes, same}
 use Rattle.xml.specs.Forest.{Forest, end, elem, stamp, nodes}
-use Rattle.xml.specs.Tags.{tag_nodes}
 use Rattle.model.specs.Keyed.{nil, node, any, keep_if, grown, sift, WFBy}
 use Rattle.model.specs.Masks.{clash}
 use Rattle.model.specs.Orders.{labels}
@@ -23,7 +22,7 @@ use Rattle.versions.specs.StampedLabels.{held_inner}
 
 -- an element named T counts for nothing
 one : Bytes → ℕ
-one m = tag_nodes m
+one m = elim (same m (bytes "T")) [ true ↦ 0 | false ↦ 1 ]
 
 -- a timestamp counts for nothing
 nodes-wrap : (p t : Times) (m : Bytes) (k r : Forest) → nodes (wrap p t (elem m k) r) ≡ one m + nodes k + nodes r

@@ -7,8 +7,7 @@ use Rattle.std.proofs.Math.Option.{Option, none, some}
 use mathlib.Core.List.{[], ◌∷◌}
 use Rattle.std.proofs.Math.ListN.{get_or}
 use Rattle.std.proofs.lemmas.List.{length-replicate, get_or-replicate}
-use Rattle.xml.specs.Tags.{named_t}
-use Rattle.xml.specs.Bytes.{Bytes}
+use Rattle.xml.specs.Bytes.{Bytes, bytes, same}
 use Rattle.xml.specs.Forest.{Forest, end, elem, text, stamp, join}
 use Rattle.model.specs.Masks.{clash}
 use Rattle.model.specs.Keyed.{nil, node, is_some, grown, sift, WFBy}
@@ -34,8 +33,8 @@ unfolding pick untimed
 untimed-pick i end e = refl
 untimed-pick i (text b r) e = ap (text b) (untimed-pick i r e)
 untimed-pick i (elem m k r) e =
-    ap₂ (elem m) (untimed-pick i k (and_right (not (named_t m)) (untimed k) (and_left (not (named_t m) && untimed k) (untimed r) e)))
-    (untimed-pick i r (and_right (not (named_t m) && untimed k) (untimed r) e))
+    ap₂ (elem m) (untimed-pick i k (and_right (not (same m (bytes "T"))) (untimed k) (and_left (not (same m (bytes "T")) && untimed k) (untimed r) e)))
+    (untimed-pick i r (and_right (not (same m (bytes "T")) && untimed k) (untimed r) e))
 untimed-pick i (stamp t k r) e = absurd (clash e refl)
 
 -- ---- sets: an element stands in the versions that have a content of it

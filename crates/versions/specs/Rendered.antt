@@ -3,14 +3,14 @@ use Rattle.std.specs.Prelude.{ℕ, ◌+◌, ◌-◌, ◌/◌, ◌%◌, ◌<◌, 
 use Rattle.std.proofs.Common.{arith, sym, ◌∙◌, ap, append-nil, append_assoc}
 use Rattle.std.proofs.Math.Bool.{true}
 use Rattle.std.proofs.Math.ListN.{length, length-append}
-use Rattle.xml.specs.Read.{tag_of}
+use Rattle.std.proofs.Math.Seq.{length-slice}
 use Rattle.xml.specs.Bytes.{Bytes, bytes}
 use Rattle.xml.specs.Forest.{Forest, end, elem, text, join, escape}
 use Rattle.xml.specs.Signs.{spelt}
 use Rattle.xml.specs.Over.{Wrote}
 use Rattle.xml.specs.OverLaws.{length_at, wrote_none, wrote_then}
 use Rattle.xml.specs.Tape.{head_at, next_at, start_in, end_in, Tape, Valid}
-use Rattle.xml.specs.TapeLaws.{bytes_at, slice-part, opening, closing, split, text-node, inner-node, tape-le, tape-none, tag-length}
+use Rattle.xml.specs.TapeLaws.{Front, bytes_at, slice-part, opening, closing, split, text-node, inner-node, tape-le, tape-none}
 
 -- what is written of a forest: of siblings one after the other, of a run the run, of an element its tags around what it holds
 pub record Pieces (w : Forest → Bytes) : Type 0 where
@@ -45,12 +45,11 @@ module _ {src cells : List ℕ} where
   valid-inside x l k = let i = inner-node x.tape l k in record { forest = i.kids; tape = i.tape }
 
   -- a tag takes less room than a node has
-  pub open-room : {p at a : ℕ} {f : Forest} {out mid : List ℕ} → Tape src cells p (next_at cells p) f → p < next_at cells p → head_at cells p % 4 ≡ 1
-      → Wrote out at (opening true (tag_of (bytes_at src cells p))) a mid → a ≤ at + 196604
+  pub open-room : {p q at a : ℕ} {out mid : List ℕ} → Front src cells p q → Wrote out at (opening true (bytes_at src cells p)) a mid → a ≤ at + 32769
   unfolding opening bytes
-  open-room {p} {at = at} {a = a} t l k w =
-      let e : a ≡ at + length (opening true (tag_of (bytes_at src cells p))) = w.place in
-      omega (arith, simp length-append at e, tag-length t l k)
+  open-room {p} {at = at} {a = a} h w =
+      let e : a ≡ at + length (opening true (bytes_at src cells p)) = w.place in
+      omega (arith, simp length-append at e, length-slice (start_in (head_at cells p)) (end_in (head_at cells p)) src h.within)
 
   module _ {w : Forest → Bytes} where
     pub going-none : {p q : ℕ} {f : Forest} {out : List ℕ} {at : ℕ} → Tape src cells p q f → Going w src cells p q (w f) out at at out
@@ -83,8 +82,8 @@ module _ {src cells : List ℕ} where
 
     -- an element, by itself
     pub element-renders : {p at a b r : ℕ} {out mid more left : List ℕ} → Pieces w → p < next_at cells p → head_at cells p % 4 ≡ 1
-        → Wrote out at (opening true (tag_of (bytes_at src cells p))) a mid → Renders w src cells (p + 1) (next_at cells p) mid a b more
-        → Wrote more b (closing true (tag_of (bytes_at src cells p))) r left → Renders w src cells p (next_at cells p) out at r left
+        → Wrote out at (opening true (bytes_at src cells p)) a mid → Renders w src cells (p + 1) (next_at cells p) mid a b more
+        → Wrote more b (closing true (bytes_at src cells p)) r left → Renders w src cells p (next_at cells p) out at r left
     element-renders {p} z l k x h y f t =
         let i = inner-node t l (λ e. omega arith) in
-        rw (i.element k, z.element (tag_of (bytes_at src cells p)) i.kids) (wrote_then (wrote_then x (h i.kids i.tape)) y)
+        rw (i.element k, z.element (bytes_at src cells p) i.kids) (wrote_then (wrote_then x (h i.kids i.tape)) y)

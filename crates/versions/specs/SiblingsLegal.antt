@@ -6,9 +6,7 @@ use Rattle.std.proofs.Math.Bool.{true}
 use Rattle.std.proofs.Math.Option.{some}
 use mathlib.Core.List.{[], ◌∷◌, map}
 use Rattle.std.proofs.lemmas.Bool.{not-true}
-use Rattle.xml.specs.TagLaws.{written-version}
-use Rattle.xml.specs.Tags.{named_t, Written}
-use Rattle.xml.specs.Bytes.{Bytes, all}
+use Rattle.xml.specs.Bytes.{Bytes, bytes, all, same, is_name}
 use Rattle.xml.specs.Forest.{Forest, end, elem, text, stamp, Tidy}
 use Rattle.xml.specs.Read.{is_end}
 use Rattle.model.specs.Keyed.{any, nil, node, Under, Roof, WFBy}
@@ -16,10 +14,10 @@ use Rattle.model.specs.Masks.{clash, true-is}
 use Rattle.model.specs.Orders.{labels}
 use Rattle.model.specs.Groups.{Groups, Apart, WFG}
 use Rattle.model.specs.Stored.{mask_g, WFS}
-use Rattle.keys.specs.KeyList.{Path, KeyList, above, key_names_at, rules_kept}
+use Rattle.keys.specs.KeyList.{Path, KeyList, listed, above, key_names_at, rules_kept}
 use Rattle.keys.specs.KeyListLaws.{front-bare}
 use Rattle.xml.specs.Truth.{and_left, and_right, both_true}
-use Rattle.keys.specs.Version.{◌▸◌, called, is_one_value, value_in, label, name_in, placed}
+use Rattle.keys.specs.Version.{◌▸◌, called, is_one_value, value_in, label, name_in}
 use Rattle.keys.specs.Address.{values_in}
 use Rattle.keys.specs.Tree.{Content, inner, contents}
 use Rattle.keys.specs.Legal.{KeyChildren, Kind, Lawful}
@@ -105,7 +103,7 @@ under-self (true ∷ t) = (tt, under-self t)
 under-self (false ∷ t) = (tt, under-self t)
 
 -- an element that has its parent's set, and the siblings after it
-bare-treed : (K : KeyList) (n : ℕ) (p : Path) (t : Times) (m : Bytes) (k r : Forest) → rules_kept K ≡ true → any t ≡ true → Written false m → named_t m ≡ false → placed K p m ≡ true
+bare-treed : (K : KeyList) (n : ℕ) (p : Path) (t : Times) (m : Bytes) (k r : Forest) → rules_kept K ≡ true → any t ≡ true → is_name m ≡ true → same m (bytes "T") ≡ false → listed K (p ▸ m) ≡ true
     → Held K n (p ▸ m) t k → precedes (some (label K p m k)) (first_label K p r) ≡ true → Treed K n p t r → Treed K n p t (elem m k r)
 unfolding stamped WFBy Lawful Roof label name_in values_in
 bare-treed K n p t m k r u a i j o h b g =
@@ -191,9 +189,9 @@ siblings-tree K n p t (text b r) u l a d h = absurd (clash h refl)
 siblings-tree K n p t (elem m k r) u l a d h =
     let h4 = both_true _ (siblings_legal K n p t r) h in
     let h3 = both_true _ (precedes (some (label K p m k)) (first_label K p r)) h4.0 in
-    let h2 = both_true (placed K p m && not (named_t m)) _ h3.0 in
-    let h1 = both_true (placed K p m) (not (named_t m)) h2.0 in
-    bare-treed K n p t m k r u a (written-version d.0) (not-true (named_t m) h1.1) h1.0
+    let h2 = both_true (listed K (p ▸ m) && not (same m (bytes "T"))) _ h3.0 in
+    let h1 = both_true (listed K (p ▸ m)) (not (same m (bytes "T"))) h2.0 in
+    bare-treed K n p t m k r u a d.0 (not-true (same m (bytes "T")) h1.1) h1.0
     (held K n (p ▸ m) t k u l a (above K (p ▸ m)) refl d.1 (λ e. siblings-tree K n (p ▸ m) t k u l a d.1 e) h2.1)
     h3.1
     (siblings-tree K n p t r u l a d.2 h4.1)

@@ -1,8 +1,7 @@
 -- The sizes of every version of an archive, in one walk: what a `T` holds itself, other `T`s apart, counts for each of its versions.
-use Rattle.std.specs.Prelude.{ℕ, zero, suc, ◌+◌, ◌≤◌, max, ◌≡◌, refl, Bool, true, false, not, ◌&&◌, ◌||◌, List, [], ◌∷◌, ◌++◌, length}
+use Rattle.std.specs.Prelude.{ℕ, zero, suc, ◌+◌, ◌*◌, ◌≤◌, max, ◌≡◌, refl, Bool, true, false, not, ◌&&◌, ◌||◌, List, [], ◌∷◌, ◌++◌, length}
 use Rattle.std.proofs.Common.{arith, sym, ◌∙◌, ap, ap₂, append_assoc, length-append}
-use Rattle.xml.specs.Tags.{name_of, tag_nodes}
-use Rattle.xml.specs.Bytes.{Bytes, bytes}
+use Rattle.xml.specs.Bytes.{Bytes, bytes, same}
 use Rattle.xml.specs.Forest.{Forest, end, elem, text, stamp, join, escape, write, nodes, depth}
 use Rattle.xml.specs.Truth.{bool_by, clash}
 use Rattle.timestamp.specs.Times.{belongs}
@@ -10,7 +9,7 @@ use Rattle.versions.specs.Archive.{pick}
 
 -- an element named T counts for nothing
 unfoldable pub one : Bytes → ℕ
-one n = tag_nodes n
+one n = elim (same n (bytes "T")) [ true ↦ 0 | false ↦ 1 ]
 
 -- nodes and written bytes that stand in no `T` of the forest
 unfoldable pub own_nodes : Forest → ℕ
@@ -22,7 +21,7 @@ own_nodes (stamp t k r) = own_nodes r
 unfoldable pub own_bytes : Forest → ℕ
 own_bytes end = 0
 own_bytes (text b r) = length (escape b) + own_bytes r
-own_bytes (elem n k r) = length n + length (name_of n) + 5 + own_bytes k + own_bytes r
+own_bytes (elem n k r) = 2 * length n + 5 + own_bytes k + own_bytes r
 own_bytes (stamp t k r) = own_bytes r
 
 abbrev pub when_in : Bool → ℕ → ℕ

@@ -7,9 +7,7 @@ use Rattle.std.proofs.Math.Option.{Option, some}
 use mathlib.Core.Ordering.{Ordering, lt, eq, gt, eq≢lt}
 use mathlib.Core.List.Memᴰ
 use mathlib.Core.List.{List, [], ◌∷◌, map, Memᴰ}
-use Rattle.xml.specs.Tags.{Written}
-use Rattle.xml.specs.TagLaws.{written-some}
-use Rattle.xml.specs.Bytes.{Bytes, any, all, same}
+use Rattle.xml.specs.Bytes.{Bytes, any, all, same, is_name}
 use Rattle.xml.specs.Forest.{Forest, end, elem, text, stamp}
 use Rattle.model.specs.Masks.{clash}
 use Rattle.model.specs.Keyed.{Tree, nil, node, slot, look, Before, WFBy, self}
@@ -88,9 +86,9 @@ called-found key t v n l gs kids r d e w =
     ∙ called-here key t (text v end) r
 
 -- a label is its name and its values
-label-parts : (l : Label) → Written false (name_in l) → l ≡ name_in l ∷ values_in l
-unfolding name_in values_in
-label-parts [] e = absurd (written-some e refl)
+label-parts : (l : Label) → is_name (name_in l) ≡ true → l ≡ name_in l ∷ values_in l
+unfolding is_name name_in values_in
+label-parts [] e = absurd (clash e refl)
 label-parts (m ∷ vs) e = refl
 
 -- an element that has no key names has no values

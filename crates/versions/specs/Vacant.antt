@@ -7,7 +7,6 @@ use Rattle.std.proofs.Math.Bool.{false}
 use mathlib.Core.List.{List, [], ◌∷◌, map}
 use Rattle.std.proofs.lemmas.List.{length-replicate}
 use Rattle.xml.specs.Bytes.{Bytes, all, is_white, line_ends}
-use Rattle.xml.specs.Tags.{name_of}
 use Rattle.xml.specs.Forest.{Forest, end, elem, text, stamp, write, nodes, depth, Tidy, Root}
 use Rattle.xml.specs.Read.{is_end}
 use Rattle.xml.specs.Lines.{white-lines}
@@ -20,7 +19,7 @@ use Rattle.model.specs.Stored.{merge_s}
 use Rattle.keys.specs.Result.{ok, r6, r7, r8, r9}
 use Rattle.keys.specs.ResultLaws.{ok-inj, bind_inv, passed}
 use Rattle.keys.specs.KeyList.{KeyList, key_list, above}
-use Rattle.keys.specs.Version.{◌▸◌, Label, drop_white, crowded, too_large, misplaced, unkeyed, find, doubled, insert_by, ordered, parsed, read_version, version}
+use Rattle.keys.specs.Version.{◌▸◌, Label, drop_white, too_large, misplaced, unkeyed, find, doubled, insert_by, ordered, parsed, read_version, version}
 use Rattle.keys.specs.VersionRead.{read-vacant, read-rooted}
 use Rattle.keys.specs.Versions.{parsed-inv}
 use Rattle.keys.specs.Address.{address, holds}
@@ -38,13 +37,13 @@ root_kept K end t o e = o
 root_kept K (text b r) t o e = o
 root_kept K (stamp s k r) t o e = clash (sym t.0)
 root_kept K (elem n k r) t o e =
-    bool_by (λ x. elim x as (λ _. Forest) [ true ↦ elem n (ordered K ([] ▸ n) (drop_white K ([] ▸ name_of n) k)) end | false ↦ elem n (drop_white K ([] ▸ name_of n) k) end ] ≡ end → ⊥) (above K [])
+    bool_by (λ x. elim x as (λ _. Forest) [ true ↦ elem n (ordered K ([] ▸ n) (drop_white K ([] ▸ n) k)) end | false ↦ elem n (drop_white K ([] ▸ n) k) end ] ≡ end → ⊥) (above K [])
     (λ _ h. clash (sym (ap is_end h))) (λ _ h. clash (sym (ap is_end h))) (subst (λ z. ordered K [] (drop_white K [] (elem n k z)) ≡ end) o e)
 
 module _ (K : KeyList) (s : Bytes) where
   -- "A version that is empty or white space alone is now legal"
   pub white-vacant : all is_white s ≡ true → version K s ≡ ok end
-  unfolding version parsed drop_white crowded too_large misplaced unkeyed doubled ordered depth nodes write
+  unfolding version parsed drop_white too_large misplaced unkeyed doubled ordered depth nodes write
   white-vacant e = rw (read-vacant (line_ends s) (white-lines s ∙ e)) refl
 
   -- and no other text is a vacant version's

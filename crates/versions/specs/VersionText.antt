@@ -65,7 +65,7 @@ module _ (i : ℕ) where
       go false h g = simp length-append (omega arith)
 
   module _ {src cells : List ℕ} where
-    pub version-length : {p q : ℕ} {f : Forest} → Tape src cells p q f → length (version_text i f) ≤ 196640 * (q - p)
+    pub version-length : {p q : ℕ} {f : Forest} → Tape src cells p q f → length (version_text i f) ≤ 163840 * (q - p)
     unfolding version_text
     version-length {f = f} t = omega (arith, pick-shorter f, length-write t)
 

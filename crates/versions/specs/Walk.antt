@@ -2,16 +2,15 @@
 -- retrieving, stepping back, histories, adding and the calls over marks do there. Calls.antt is stated without it; WalkLaws.antt says that it comes to the same.
 use Rattle.std.specs.Prelude.{ℕ, suc, Bool, true, false, not, ◌&&◌, ◌||◌, List, [], ◌∷◌, ◌++◌, map, eqb, leb, length}
 use Rattle.std.proofs.Math.Option.{Option, none, some}
-use Rattle.xml.specs.Tags.{named_t}
-use Rattle.xml.specs.Bytes.{Bytes, any, all, same}
+use Rattle.xml.specs.Bytes.{Bytes, bytes, any, all, same}
 use Rattle.xml.specs.Forest.{Forest, end, elem, text, stamp, write, nodes, join, same_forest}
 use Rattle.xml.specs.Read.{read, is_end}
 use Rattle.model.specs.Keyed.{three}
 use Rattle.model.specs.Stored.{or_l}
 use Rattle.model.specs.Orders.{labels}
 use Rattle.keys.specs.Result.{Result, ok, ◌>>=◌, ◌>>◌, refuse, refused_as, r10, r11}
-use Rattle.keys.specs.KeyList.{Path, KeyList, key_list, above, key_names_at}
-use Rattle.keys.specs.Version.{◌▸◌, Label, label, called, is_one_value, same_label, before, too_large, parsed, version, placed}
+use Rattle.keys.specs.KeyList.{Path, KeyList, key_list, listed, above, key_names_at}
+use Rattle.keys.specs.Version.{◌▸◌, Label, label, called, is_one_value, same_label, before, too_large, parsed, version}
 use Rattle.keys.specs.Address.{address}
 use Rattle.keys.specs.Legal.{untimed}
 use Rattle.timestamp.specs.Times.{Times, same_times, only_after, always, up_from, belongs, write_times, last_number}
@@ -109,7 +108,7 @@ unfoldable pub siblings_legal : KeyList → ℕ → Path → Times → Forest �
 siblings_legal K n p t end = true
 siblings_legal K n p t (text b r) = false
 siblings_legal K n p t (elem m k r) =
-    placed K p m && not (named_t m)
+    listed K (p ▸ m) && not (same m (bytes "T"))
     && elim (above K (p ▸ m)) [
       | true ↦ all (λ key. is_one_value (called key k)) (key_names_at K (p ▸ m)) && siblings_legal K n (p ▸ m) t k
       | false ↦ front_legal n t k

@@ -1,4 +1,3 @@
 pub mod HistoryParts
 pub mod HistoryWalk
 pub mod Trimmed
-pub mod Weights

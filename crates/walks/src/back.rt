@@ -62,7 +62,7 @@ fn back_inside(
     out: &mut [u8],
     at: usize,
 ) -> usize
-    requires { Timely i src.now tape.now lo hi × (1 ≤ i) × Trimmed i src.now a around.to around.tail × (at + 196640 * (hi - lo) < 2 ^ 60) }
+    requires { Timely i src.now tape.now lo hi × (1 ≤ i) × Trimmed i src.now a around.to around.tail × (at + 163840 * (hi - lo) < 2 ^ 60) }
     ensures { Renders (back_text i (times_in i (cut_text src.now a around.to around.tail i))) src.now tape.now lo hi
         out.old at result out.new }
 {
@@ -84,7 +84,7 @@ fn back_node(
     around: Change,
     out: &mut [u8],
 ) -> usize
-    requires { (p < next_at tape.now p) × Timely i src.now tape.now p (next_at tape.now p) × (1 ≤ i) × Trimmed i src.now a around.to around.tail × (196640 * (next_at tape.now p - p) < 2 ^ 60) }
+    requires { (p < next_at tape.now p) × Timely i src.now tape.now p (next_at tape.now p) × (1 ≤ i) × Trimmed i src.now a around.to around.tail × (163840 * (next_at tape.now p - p) < 2 ^ 60) }
     ensures { Renders (back_text i (times_in i (cut_text src.now a around.to around.tail i))) src.now tape.now p (next_at tape.now p)
         out.old 0 result out.new }
 {
@@ -125,7 +125,7 @@ pub fn write_back(
     out: &mut [u8],
     at: usize,
 ) -> usize
-    requires { Timely i src.now tape.now lo hi × (1 ≤ i) × Trimmed i src.now a around.to around.tail × (at + 196640 * (hi - lo) < 2 ^ 60) }
+    requires { Timely i src.now tape.now lo hi × (1 ≤ i) × Trimmed i src.now a around.to around.tail × (at + 163840 * (hi - lo) < 2 ^ 60) }
     ensures { Renders (back_text i (times_in i (cut_text src.now a around.to around.tail i))) src.now tape.now lo hi
         out.old at result out.new }
 {
@@ -142,7 +142,7 @@ pub fn write_back(
 
 // Writes the whole archive, which the nodes 0 to hi are, after a step back to version i.
 pub fn back(src: &[u8], tape: &[u32], hi: usize, i: usize, out: &mut [u8], at: usize) -> usize
-    requires { (0 < hi) × (next_at tape.now 0 ≡ hi) × (head_at tape.now 0 % 4 ≡ 2) × Timely i src.now tape.now 0 hi × (1 ≤ i) × (times_in i (bytes_at src.now tape.now 0) ≡ always i) × (at + 196640 * hi < 2 ^ 60) }
+    requires { (0 < hi) × (next_at tape.now 0 ≡ hi) × (head_at tape.now 0 % 4 ≡ 2) × Timely i src.now tape.now 0 hi × (1 ≤ i) × (times_in i (bytes_at src.now tape.now 0) ≡ always i) × (at + 163840 * hi < 2 ^ 60) }
     ensures { (f : Forest) → Tape src.now tape.now 0 hi f
         → Wrote out.old at (written (back_forest i f)) result out.new }
 {

@@ -12,7 +12,7 @@ use xml::writer::{least, put_close, put_open, put_text};
 // Writes what of node p is in version i, from the start of `out`.
 #[cycle(write_node_write_version)]
 fn write_node(src: &[u8], tape: &[u32], p: usize, i: usize, out: &mut [u8]) -> usize
-    requires { (p < next_at tape.now p) × Timely i src.now tape.now p (next_at tape.now p) × (196640 * (next_at tape.now p - p) < 2 ^ 61) }
+    requires { (p < next_at tape.now p) × Timely i src.now tape.now p (next_at tape.now p) × (163840 * (next_at tape.now p - p) < 2 ^ 61) }
     ensures { Renders (version_text i) src.now tape.now p (next_at tape.now p) out.old 0 result out.new }
 {
     let v = view_at(tape, p);
@@ -43,7 +43,7 @@ pub fn write_version(
     out: &mut [u8],
     at: usize,
 ) -> usize
-    requires { Timely i src.now tape.now lo hi × (at + 196640 * (hi - lo) < 2 ^ 61) }
+    requires { Timely i src.now tape.now lo hi × (at + 163840 * (hi - lo) < 2 ^ 61) }
     ensures { Renders (version_text i) src.now tape.now lo hi out.old at result out.new }
 {
     let mut p = lo;

@@ -55,7 +55,7 @@ pub fn put_timed(
 ) -> usize
     requires { Valid src.now tape.now lo hi × (hi ≤ 2 ^ 32) × (at < 2 ^ 59) }
     ensures { ((f : Forest) → Tape src.now tape.now lo hi f
-        → Wrote out.old at (write (stamp (text_of (set_of set.words)) f end)) result out.new) × (result ≤ at + 3012 + 196640 * (hi - lo)) }
+        → Wrote out.old at (write (stamp (text_of (set_of set.words)) f end)) result out.new) × (result ≤ at + 3012 + 163840 * (hi - lo)) }
 {
     let inside = put_times(set, out, at);
     let close = write_at(src, tape, lo, hi, out, inside);
@@ -74,7 +74,7 @@ pub fn put_newest(
 ) -> usize
     requires { (n ≤ 998) × Valid src.now tape.now lo hi × (hi ≤ 2 ^ 32) × (at < 2 ^ 59) }
     ensures { ((f : Forest) → Tape src.now tape.now lo hi f
-        → Wrote out.old at (write (newest n f end)) result out.new) × (result ≤ at + 3012 + 196640 * (hi - lo)) }
+        → Wrote out.old at (write (newest n f end)) result out.new) × (result ≤ at + 3012 + 163840 * (hi - lo)) }
 {
     let set = Timestamp::empty().with(n + 1);
     put_timed(set, src, tape, lo, hi, out, at)

@@ -8,7 +8,7 @@ use native.Mathlib.Numerals.{add-one}
 use native.Mathlib.Nat.{add-zero}
 use native.Mathlib.Omega.{arith}
 use lib.ListN.{length, drop, get_or, set, length-set}
-use lib.Seq.{slice, drop-cons, drop-drop, get_or-drop}
+use lib.Seq.{slice, drop-cons, drop-drop, get_or-drop, get_or-set_other}
 use Rattle.xml.specs.Bytes.{Bytes, is_white, bytes_compute}
 use Rattle.xml.specs.Forest.{Forest, end, elem, text, stamp, join}
 use Rattle.xml.specs.Read.{tag_node, Stack, outer, inside, move, wrong, broken, is_end, step, start_tag, end_tag, finish, read}
@@ -21,11 +21,9 @@ use Rattle.xml.specs.declared.tape.View.{View}
 use Rattle.xml.specs.StepLaws.{go-end, in-range, step_start, step_end, out-white, out-other, out-second, out-start, finish-outer, finish-done, finish-inside}
 use Rattle.xml.specs.Held.{Held, held_none, held-le, held-close}
 use Rattle.xml.specs.Tokens.{EndRead, ended_by}
-use Rattle.xml.specs.State.{Reading, Here, Ending, Opening, Went, Filled}
+use Rattle.xml.specs.State.{Reading, Here, Ending, Opening, Untouched, Went, Filled}
 use Rattle.xml.proofs.Steps.{in-text, stops, went}
-use Rattle.xml.proofs.Turns.{Around, around, tag-kind, tag-within, tag-named, tag-start, outermost}
-use Rattle.xml.specs.Tags.{name_of}
-use Rattle.xml.specs.TagParts.{IsTag}
+use Rattle.xml.proofs.Turns.{Around, around, outermost}
 
 -- ---- an end tag
 module _ {a : Bool} {src : Bytes} {cells : List ℕ} {at count top : ℕ} (w : Ending a src cells at count top) where
@@ -51,10 +49,10 @@ module _ {a : Bool} {src : Bytes} {cells : List ℕ} {at count top : ℕ} (w : E
 
   -- what the scanner answers
   abbrev pub Read : Run → Type 0
-  Read o = EndRead (head_at cells (top - 1) % 4) (name_of (bytes_at src cells (top - 1))) (drop (at + 2) src) o
+  Read o = EndRead (head_at cells (top - 1) % 4) (bytes_at src cells (top - 1)) (drop (at + 2) src) o
 
   ended : (o : Run) → Read o → step a r.stack r.forest (drop at src) ≡ ended_by its.tag its.before its.stack r.forest o
-  ended o e = closes ∙ e its.tag (sym (tag-kind its.node)) (λ k. tag-named its.node k) its.before its.stack r.forest
+  ended o e = closes ∙ e its.tag (sym its.node.kind-is) (sym its.node.bytes-are) its.before its.stack r.forest
 
   pub stop-in : (m : ℕ) → Read (Stop m) → at + 2 + m ≤ length src
   stop-in m e =
@@ -70,7 +68,7 @@ module _ {a : Bool} {src : Bytes} {cells : List ℕ} {at count top : ℕ} (w : E
   close-bad m e = stops r w.here (2 + m) (at + 2 + m) (ended (Stop m) e) (omega arith)
 
   pub close-good : (m : ℕ) (new : List ℕ) → Read (Upto m) → new ≡ set cells (2 * (top - 1) + 1) count →
-      Went a src at count new (at + 3 + m) count (next_at cells (top - 1))
+      Went a src cells at count new (at + 3 + m) count (next_at cells (top - 1))
   close-good m new e n =
       let held : Held src cells (inside its.tag its.before its.stack) r.forest top count =
       subst (λ (x : Stack). Held src cells x r.forest top count) its.is r.held
@@ -81,21 +79,20 @@ module _ {a : Bool} {src : Bytes} {cells : List ℕ} {at count top : ℕ} (w : E
       let inner = w.inner in
       went r w.here its.stack (join its.before (tag_node its.tag r.forest)) (2 + m) (at + 3 + m) (ended (Upto m) e) (omega arith)
       (held-close new held room n) (omega arith) (omega arith) (omega arith)
+      (λ i h. ap (λ (c : List ℕ). get_or c i 0) n ∙ get_or-set_other cells (2 * (top - 1) + 1) i count 0 (λ d. omega arith))
       (omega (arith, r.few)) (λ z h d. omega (arith, r.few))
 
   -- the same of what was seen of the node
   module _ {v : View} (seen : v ≡ view_at cells (top - 1)) where
-    pub seen-in : (at + 2 ≤ length src) × (v.start ≤ v.end) × (v.end ≤ length src) × (length src ≤ 32768) × ((v.kind ≡ 2 → ⊥) → IsTag (slice v.start v.end src))
-    seen-in =
-        subst (λ (x : View). (at + 2 ≤ length src) × (x.start ≤ x.end) × (x.end ≤ length src) × (length src ≤ 32768) × ((x.kind ≡ 2 → ⊥) → IsTag (slice x.start x.end src))) (sym seen)
-        (two_in, omega arith, tag-within its.node, r.short, tag-start its.node)
+    pub seen-in : (at + 2 ≤ length src) × (v.start ≤ v.end) × (v.end ≤ length src)
+    seen-in = subst (λ (x : View). (at + 2 ≤ length src) × (x.start ≤ x.end) × (x.end ≤ length src)) (sym seen) (two_in, omega arith, its.node.within)
 
-    pub told : (q o : Run) → q ≡ o → EndRead v.kind (name_of (slice v.start v.end src)) (drop (at + 2) src) q → Read o
+    pub told : (q o : Run) → q ≡ o → EndRead v.kind (slice v.start v.end src) (drop (at + 2) src) q → Read o
     told q o e h =
-        subst Read e (subst (λ (x : View). EndRead x.kind (name_of (slice x.start x.end src)) (drop (at + 2) src) q) seen h)
+        subst Read e (subst (λ (x : View). EndRead x.kind (slice x.start x.end src) (drop (at + 2) src) q) seen h)
 
-    pub close-seen : (m : ℕ) (new : List ℕ) → Read (Upto m) → new ≡ set cells (2 * (top - 1) + 1) count → Went a src at count new (at + 3 + m) count v.next
-    close-seen m new e n = subst (λ (x : View). Went a src at count new (at + 3 + m) count x.next) (sym seen) (close-good m new e n)
+    pub close-seen : (m : ℕ) (new : List ℕ) → Read (Upto m) → new ≡ set cells (2 * (top - 1) + 1) count → Went a src cells at count new (at + 3 + m) count v.next
+    close-seen m new e n = subst (λ (x : View). Went a src cells at count new (at + 3 + m) count x.next) (sym seen) (close-good m new e n)
 
 -- ---- a start tag in an open node
 module _ {a : Bool} {src : Bytes} {cells : List ℕ} {at count top : ℕ} (w : Here a src cells at count top) where
@@ -143,11 +140,11 @@ module _ {a : Bool} {src : Bytes} {cells : List ℕ} {at count : ℕ} (w : Here 
   at_out : step a ro.stack ro.forest (drop at src) ≡ step a outer ro.forest (get_or src at 0 ∷ drop (at + 1) src)
   at_out = ap (λ (x : Stack). step a x ro.forest (drop at src)) out.0 ∙ ap (step a outer ro.forest) (at-is w)
 
-  pub outside-white : is_white (get_or src at 0) ≡ true → Went a src at count cells (at + 1) count 0
+  pub outside-white : is_white (get_or src at 0) ≡ true → Went a src cells at count cells (at + 1) count 0
   outside-white e =
       went ro w.here ro.stack ro.forest 0 (at + 1)
       (at_out ∙ out-white a ro.forest (get_or src at 0) (drop (at + 1) src) e ∙ ap (λ (x : Stack). move x ro.forest 0) (sym out.0)) (omega arith)
-      ro.held (omega arith) (omega arith) ro.room (omega (arith, ro.few)) (λ z h d. absurd (omega arith))
+      ro.held (omega arith) (omega arith) ro.room (λ i h. refl) (omega (arith, ro.few)) (λ z h d. absurd (omega arith))
 
   pub outside-other : is_white (get_or src at 0) ≡ false → (get_or src at 0 ≡ code "<" → ⊥) → read a src ≡ broken at
   outside-other e n = stops ro w.here 0 at (at_out ∙ out-other a ro.forest (get_or src at 0) (drop (at + 1) src) e n) (omega arith)
@@ -197,13 +194,14 @@ module _ {a : Bool} {src : Bytes} {cells : List ℕ} {at count top : ℕ} (r : R
         over ∙ ap (λ (x : Stack). finish x r.forest at) was.0
         ∙ finish-outer r.forest at (end-at (subst (λ (x : ℕ). Tape src cells 0 x r.forest) n was.1))
 
-    pub end-done : (count ≡ 0 → ⊥) → Filled a src cells count
-    end-done n =
+    pub end-done : (before : List ℕ) → (count ≡ 0 → ⊥) → Untouched before cells count → Filled a src before cells count
+    end-done before n u =
         record {
           forest = r.forest;
           is = over ∙ ap (λ (x : Stack). finish x r.forest at) was.0 ∙ finish-done r.forest at (some_at r.forest n was.1);
           tape = was.1;
           count = omega (arith, tape-size was.1);
+          untouched = u;
         }
 
 -- ---- the start

@@ -1,6 +1,5 @@
 pub mod ClassesKept
 pub mod Tags
-pub mod PartTags
 pub mod Steps
 pub mod Turns
 pub mod Closes

@@ -1,24 +1,17 @@
 -- Tags at a place of a text: a law for each answer of the scanner.
 use Prim.Native.Char.{code}
-use Prim.Native.Nat.{ℕ, suc, ◌+◌, ◌-◌, ◌≤◌}
+use Prim.Native.Nat.{ℕ, ◌+◌, ◌-◌, ◌≤◌}
 use mathlib.Core.Path.{◌≡◌, ap, ap₂, sym, ◌∙◌, subst}
-use mathlib.Core.List.{[], ◌∷◌}
-use mathlib.Core.Bool.{Bool, true, false, ◌&&◌, ◌||◌}
+use mathlib.Core.Bool.{Bool, true, false, ◌&&◌}
 use native.Mathlib.Nat.{add-zero}
 use native.Mathlib.Omega.{arith}
-use borrow.Author.Tests.{eq-eqb, eqb-true}
+use borrow.Author.Tests.{eqb-true}
 use lib.Dec.{eqb}
 use lib.ListN.{length, take, drop, get_or, length-drop}
-use lib.Seq.{slice, get_or-drop, drop-drop, take-take, length-take-le}
-use Rattle.xml.specs.Tags.{name_of}
-use Rattle.xml.specs.TagSums.{name-part}
-use Rattle.xml.specs.Bytes.{Bytes, bytes, same}
+use lib.Seq.{slice, get_or-drop, drop-drop}
+use Rattle.xml.specs.Bytes.{Bytes, bytes}
 use Rattle.xml.specs.Forest.{Forest}
-use Rattle.xml.specs.Read.{common, name_len, times_len, attrs, tag_from, Stack, start_tag}
-use Rattle.xml.specs.Attrs.{attrs-range}
-use Rattle.xml.specs.TextLaws.{place}
-use Rattle.xml.specs.TagLaws.{Tag, tag-short, tag_len-sound}
-use Rattle.xml.specs.TagsRead.{TagLong, Begun}
+use Rattle.xml.specs.Read.{common, name_len, times_len, Stack, start_tag}
 use Rattle.xml.specs.TapeLaws.{slice-part}
 use Rattle.xml.specs.ScanLaws.{name_len-fits, times_len-fits, common-fits}
 use Rattle.xml.specs.StepLaws.{in-range}
@@ -49,41 +42,30 @@ module _ (a : Bool) (src : Bytes) (at : ℕ) (inn : at ≤ length src) {n : ℕ}
   name_in_lem = omega (arith, name_len-fits (drop at src), length-drop at src)
 
   pub none_here : n ≡ 0 → StartRead a (drop at src) (Off 1)
-  none_here z =
-      let t : eqb n 0 || a && same (take n (drop at src)) (bytes "T") ≡ true = rw (eq-eqb n 0 z) in
-      start_none a (drop at src) (sym (ap (tag_from a (drop at src)) (sym len) ∙ tag-short a (drop at src) n t)) z
+  none_here z = start_none a (drop at src) len z
 
--- and what stands in it has n
-module _ {a : Bool} {src : Bytes} {at n : ℕ} (h : TagLong a src at n) {b : ℕ} (is : b ≡ get_or src (at + n) 0) where
-  first : get_or (drop at src) n 0 ≡ b
-  first = get_or-drop at src n 0 ∙ sym is
+  module _ {b : ℕ} (is : b ≡ get_or src (at + n) 0) (some : n ≡ 0 → ⊥) where
+    first : get_or (drop at src) n 0 ≡ b
+    first = get_or-drop at src n 0 ∙ sym is
 
-  -- it is a tag
-  taken : Tag a (take n (drop at src))
-  taken = tag_len-sound a (drop at src) n h.long h.some
+    pub opens-here : b ≡ code ">" → StartRead a (drop at src) (Opens n)
+    opens-here e = start-opens a (drop at src) len some (first ∙ e)
 
-  pub opens-here : b ≡ code ">" → Begun a (drop at src) (Opens n)
-  opens-here e = (start-opens a (drop at src) (sym h.long) h.some (first ∙ e), taken)
+    module _ (more : b ≡ code ">" → ⊥) where
+      module _ {d : ℕ} (after : d ≡ get_or src (at + n + 1) 0) (slash : b ≡ code "/") where
+        second : get_or (drop at src) (1 + n) 0 ≡ d
+        second =
+            let e : at + (1 + n) ≡ at + n + 1 = omega arith in
+            get_or-drop at src (1 + n) 0 ∙ ap (λ (i : ℕ). get_or src i 0) e ∙ sym after
 
-  module _ (more : b ≡ code ">" → ⊥) where
-    module _ {d : ℕ} (after : d ≡ get_or src (at + n + 1) 0) (slash : b ≡ code "/") where
-      second : get_or (drop at src) (1 + n) 0 ≡ d
-      second =
-          let e : at + (1 + n) ≡ at + n + 1 = omega arith in
-          get_or-drop at src (1 + n) 0 ∙ ap (λ (i : ℕ). get_or src i 0) e ∙ sym after
+        pub lone-here : d ≡ code ">" → StartRead a (drop at src) (Lone n)
+        lone-here e = start-lone a (drop at src) len some (λ x. more (sym first ∙ x)) (first ∙ slash) (second ∙ e)
 
-      pub lone-here : d ≡ code ">" → Begun a (drop at src) (Lone n)
-      lone-here e = (start-lone a (drop at src) (sym h.long) h.some (λ x. more (sym first ∙ x)) (first ∙ slash) (second ∙ e), taken)
+        pub slash-here : (d ≡ code ">" → ⊥) → StartRead a (drop at src) (Off (2 + n))
+        slash-here e = start-slash a (drop at src) len some (λ x. more (sym first ∙ x)) (first ∙ slash) (λ x. e (sym second ∙ x))
 
-      pub slash-here : (d ≡ code ">" → ⊥) → StartRead a (drop at src) (Off (2 + n))
-      slash-here e = start-slash a (drop at src) (sym h.long) h.some (λ x. more (sym first ∙ x)) (first ∙ slash) (λ x. e (sym second ∙ x))
-
-    pub other-here : (b ≡ code "/" → ⊥) → StartRead a (drop at src) (Off (1 + n))
-    other-here bare = start-other a (drop at src) (sym h.long) h.some (λ x. more (sym first ∙ x)) (λ x. bare (sym first ∙ x)) (begins-at a src at ∙ h.untimed)
-
--- attributes lie in the text
-pub attrs-in : (s : Bytes) {r : Run} → attrs [] 0 0 s ≡ r → place r ≤ length s
-attrs-in s e = subst (λ (r : Run). place r ≤ length s) e (omega (arith, attrs-range [] 0 0 s (omega arith)))
+      pub other-here : (b ≡ code "/" → ⊥) → begins_times a (get_or src at 0) (get_or src (at + 1) 0) ≡ false → StartRead a (drop at src) (Off (1 + n))
+      other-here bare e = start-other a (drop at src) len some (λ x. more (sym first ∙ x)) (λ x. bare (sym first ∙ x)) (begins-at a src at ∙ e)
 
 -- ---- an archive's start tag after its `<T`
 module _ (src : Bytes) (at : ℕ) (inn : at ≤ length src) {m : ℕ} (is : m ≡ common (bytes " t=\"") (drop at src)) where
@@ -133,24 +115,3 @@ pub part-is : (start end : ℕ) (l : Bytes) → start ≤ end → take (end - st
 part-is start end l h =
     let e : start + (end - start) ≡ end = omega arith in
     sym (slice-part start (end - start) l) ∙ ap (λ (x : ℕ). slice start x l) e
-
-name-long : (s : Bytes) → length (name_of s) ≤ length s
-unfolding name_of
-name-long [] = omega arith
-name-long (b ∷ s) = at (eqb b (code " ")) (name-long s)
-  where
-    at : (x : Bool) → length (name_of s) ≤ length s → length {A = ℕ} (elim x [ true ↦ [] | false ↦ b ∷ name_of s ]) ≤ suc (length s)
-    at true h = omega arith
-    at false h = omega arith
-
--- the name of a tag that is a part of the text
-module _ (start end : ℕ) (l : Bytes) (h : start ≤ end) (k : end ≤ length l) {n : ℕ} (is : n ≡ length (name_of (take (end - start) (drop start l)))) where
-  pub name-within : start + n ≤ end
-  name-within =
-      let e = name-long (take (end - start) (drop start l)) in
-      omega (arith, is, length-take-le (end - start) (drop start l) (omega (arith, length-drop start l)))
-
-  pub name-at : take (start + n - start) (drop start l) ≡ name_of (slice start end l)
-  name-at =
-      let z : start + n - start ≡ n = omega arith in
-      ap (λ (i : ℕ). take i (drop start l)) z ∙ sym (take-take n (end - start) (drop start l) (omega (arith, name-within))) ∙ name-part (take (end - start) (drop start l)) n is ∙ ap name_of (part-is start end l h)

@@ -1,4 +1,4 @@
--- Bytes told by comparisons: which of the five tests of a class say white space and names, and the bytes after which a text goes on, whatever stands before them.
+-- Bytes told by comparisons: which of the five tests of a class say white space and names, and the bytes of a text that stand for themselves.
 use Rattle.std.specs.Prelude.{ℕ, ◌<◌, ◌≤◌, ◌≡◌, refl, Bool, true, false, ◌&&◌, ◌||◌, leb}
 use Prim.Native.Char.{code}
 use Rattle.std.proofs.Common.{arith, sym, ◌∙◌}

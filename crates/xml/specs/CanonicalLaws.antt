@@ -71,7 +71,7 @@ module _ (s : Bytes) (tape out : List ℕ) where
         rw (le-ltb 16384 (length s) l, le-ltb (length tape) (length s) h, canonical_of, canonical_out, canonical_tape) (g.0, g.1, e)
 
 -- what the form asks
-pub filled-few : {s : Bytes} {cells : List ℕ} {n : ℕ} → Filled false s cells n → length s ≤ 16384 → Valid s cells 0 n × (n ≤ 2 ^ 32)
+pub filled-few : {s : Bytes} {before cells : List ℕ} {n : ℕ} → Filled false s before cells n → length s ≤ 16384 → Valid s cells 0 n × (n ≤ 2 ^ 32)
 filled-few {s} g l =
     (record { forest = g.forest; tape = g.tape }, omega (arith, g.count, version-fits false s g.forest g.is))
 

@@ -1,17 +1,16 @@
 -- What is open, closed by its end tags; and the start tags `<name/>` and `<T t="..">` before these: each is read to the end of the text.
-use Rattle.std.specs.Prelude.{◌≡◌, refl, Bool, true, false, [], ◌∷◌, ◌++◌, ℕ, suc, ◌+◌, ◌<◌, ◌≤◌, length, take, drop, get_or}
+use Rattle.std.specs.Prelude.{◌≡◌, refl, Bool, true, false, [], ◌∷◌, ◌++◌, ℕ, zero, suc, ◌+◌, ◌<◌, ◌≤◌, length, take, drop, get_or}
 use Rattle.std.proofs.Common.{ap, sym, ◌∙◌, arith, length-append, get_or-append-add}
 use Prim.Native.Char.{code}
 use Rattle.std.proofs.lemmas.Bool.{eqb-false}
 use Rattle.std.proofs.Math.Seq.{take-append_seam, drop-append_seam, get_or-append_seam, drop-append-add}
-use Rattle.xml.specs.Bytes.{Bytes, bytes, is_times}
+use Rattle.xml.specs.Bytes.{Bytes, bytes, is_start, is_name_byte, is_times, bytes_compute}
 use Rattle.xml.specs.Forest.{Forest, end, elem, text, stamp, join}
-use Rattle.xml.specs.Read.{common, times_len, tag_len, tag_of, Tag, named, timed, tag_name, tag_node, Stack, outer, inside, move, whole, is_end, times_end, start_tag, step, go, read_compute}
-use Rattle.xml.specs.ScanLaws.{times_len-cons, times_len-off, common-self}
-use Rattle.xml.specs.StepLaws.{tag-upto, tag-empty, times-end-good, finish-done, go_on_lem}
+use Rattle.xml.specs.Read.{common, name_rest, name_len, times_len, Tag, named, timed, tag_name, tag_node, Stack, outer, inside, move, whole, is_end, times_end, start_of, start_tag, step, go, read_compute}
+use Rattle.xml.specs.ScanLaws.{name_rest-cons, name_rest-off, name_len-cons, name_len-off, times_len-cons, times_len-off, common-self}
+use Rattle.xml.specs.StepLaws.{tag-empty, times-end-good, finish-done, go_on_lem}
 use Rattle.xml.specs.Goes.{goes_end}
 use Rattle.xml.specs.TimedTags.{times_close}
-use Rattle.xml.specs.declared.Run.TheVariants.{Upto}
 
 -- ---- closing what is open
 
@@ -48,8 +47,38 @@ inner-closes a o g st f = some-closes a (inside o g st) f apart
 
 -- ---- an empty element completes a start tag
 
--- `<`, what stands in a tag, `/>` and what closes the rest
-pub empty-closes : (a : Bool) (st : Stack) (f : Forest) (w : Bytes) → (length w ≡ 0 → ⊥) → tag_len a (w ++ (code "/" ∷ code ">" ∷ close_all st)) ≡ Upto (length w) →
+slash-no : is_name_byte (code "/") ≡ false
+unfolding bytes_compute
+slash-no = refl
+
+rest-slash : (r : ℕ) (s x : Bytes) → name_rest r (take (name_rest r s) s ++ code "/" ∷ x) ≡ name_rest r s
+unfolding name_rest
+rest-slash zero s x = refl
+rest-slash (suc r) [] x = name_rest-off (suc r) (code "/") x slash-no
+rest-slash (suc r) (b ∷ s) x = at (is_name_byte b) refl (rest-slash r s x)
+  where
+    at : (t : Bool) → is_name_byte b ≡ t → name_rest r (take (name_rest r s) s ++ code "/" ∷ x) ≡ name_rest r s →
+        name_rest (suc r) (take (name_rest (suc r) (b ∷ s)) (b ∷ s) ++ code "/" ∷ x) ≡ name_rest (suc r) (b ∷ s)
+    at true e h =
+        ap (λ (n : ℕ). name_rest (suc r) (take n (b ∷ s) ++ code "/" ∷ x)) (name_rest-cons r b s e)
+        ∙ name_rest-cons r b (take (name_rest r s) s ++ code "/" ∷ x) e ∙ ap suc h ∙ sym (name_rest-cons r b s e)
+    at false e h =
+        ap (λ (n : ℕ). name_rest (suc r) (take n (b ∷ s) ++ code "/" ∷ x)) (name_rest-off (suc r) b s e)
+        ∙ name_rest-off (suc r) (code "/") x slash-no ∙ sym (name_rest-off (suc r) b s e)
+
+pub name-slash : (s x : Bytes) → (name_len s ≡ 0 → ⊥) → name_len (take (name_len s) s ++ code "/" ∷ x) ≡ name_len s
+unfolding name_len
+name-slash [] x h = absurd (h refl)
+name-slash (b ∷ s) x h = at (is_start b) refl
+  where
+    at : (t : Bool) → is_start b ≡ t → name_len (take (name_len (b ∷ s)) (b ∷ s) ++ code "/" ∷ x) ≡ name_len (b ∷ s)
+    at true e =
+        ap (λ (n : ℕ). name_len (take n (b ∷ s) ++ code "/" ∷ x)) (name_len-cons b s e)
+        ∙ name_len-cons b (take (name_rest 31 s) s ++ code "/" ∷ x) e ∙ ap suc (rest-slash 31 s x) ∙ sym (name_len-cons b s e)
+    at false e = absurd (h (name_len-off b s e))
+
+-- `<`, a name w, `/>` and what closes the rest
+pub empty-closes : (a : Bool) (st : Stack) (f : Forest) (w : Bytes) → (length w ≡ 0 → ⊥) → name_len (w ++ (code "/" ∷ code ">" ∷ close_all st)) ≡ length w →
     step a st f (code "<" ∷ (w ++ (code "/" ∷ code ">" ∷ close_all st))) ≡ start_tag a st f (w ++ (code "/" ∷ code ">" ∷ close_all st)) → Closes a st f (code "<" ∷ (w ++ (code "/" ∷ code ">" ∷ close_all st)))
 empty-closes a st f w z l e at =
     let c = close_all st in
@@ -59,14 +88,14 @@ empty-closes a st f w z l e at =
     let j : 1 + n ≡ n + 1 = omega arith in
     let d : get_or s (1 + n) 0 ≡ code ">" = ap (λ (i : ℕ). get_or s i 0) j ∙ get_or-append-add w (code "/" ∷ code ">" ∷ c) 1 0 in
     let no : get_or s n 0 ≡ code ">" → ⊥ = λ y. eqb-false (code "/") (code ">") refl (sym b ∙ y) in
-    let m : step a st f (code "<" ∷ s) ≡ move st (join f (elem (tag_of (take n s)) end end)) (2 + n) = e ∙ tag-upto a st f s n l ∙ tag-empty a st f s n z no b d in
+    let m : step a st f (code "<" ∷ s) ≡ move st (join f (elem (take n s) end end)) (2 + n) = e ∙ ap (start_of a st f s) l ∙ tag-empty a st f s n z no b d in
     let h : 2 + n ≤ length s = omega (arith, length-append w (code "/" ∷ code ">" ∷ c)) in
     let k : 2 + n ≡ n + 2 = omega arith in
     let q : drop (2 + n) s ≡ c = ap (λ (i : ℕ). drop i s) k ∙ drop-append-add w (code "/" ∷ code ">" ∷ c) 2 in
-    let y = some-closes a st (join f (elem (tag_of (take n s)) end end)) (λ x. join-some f (named (tag_of (take n s))) end) (suc at + (2 + n)) in (
+    let y = some-closes a st (join f (elem (take n s) end end)) (λ x. join-some f (named (take n s)) end) (suc at + (2 + n)) in (
       y.0,
-      go_on_lem a st st f (join f (elem (tag_of (take n s)) end end)) at (code "<") (2 + n) s m h
-          ∙ ap (λ (x : Bytes). go a st (join f (elem (tag_of (take n s)) end end)) (suc at + (2 + n)) 0 x) q ∙ y.1,
+      go_on_lem a st st f (join f (elem (take n s) end end)) at (code "<") (2 + n) s m h
+          ∙ ap (λ (x : Bytes). go a st (join f (elem (take n s) end end)) (suc at + (2 + n)) 0 x) q ∙ y.1,
     )
 
 -- ---- an archive's `<T t="..">`

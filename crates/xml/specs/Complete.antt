@@ -1,17 +1,17 @@
 -- Completeness of reading: a text is read as the forest that it spells.
 use Rattle.std.specs.Prelude.{ℕ, ◌+◌, ◌≡◌, refl, Bool, false}
 use Prim.Native.Char.{code}
-use Rattle.std.proofs.Common.{ap, sym, ◌∙◌, subst}
+use Rattle.std.proofs.Common.{ap, sym, ◌∙◌}
 use mathlib.Core.List.{[], ◌∷◌, ◌++◌, append_assoc, append-nil}
 use Rattle.std.proofs.lemmas.Bool.{eqb-false}
 use Rattle.xml.specs.Bytes.{Bytes, bytes, is_start, bytes_compute}
 use Rattle.xml.specs.Forest.{Forest, end, elem, text, stamp, join, NotText, Root}
-use Rattle.xml.specs.Grammar.{StartTag, Content, nothing, run, element, lone, times, Spells}
+use Rattle.xml.specs.Grammar.{Content, nothing, run, element, lone, times, Spells}
 use Rattle.xml.specs.Read.{Tag, named, timed, Stack, outer, inside, whole, is_end, start_tag, step, finish, go, read}
 use Rattle.xml.specs.Truth.{clash}
 use Rattle.xml.specs.Clear.{clear-start}
 use Rattle.xml.specs.Spelled.{root-some}
-use Rattle.xml.specs.TagLaws.{start-name, start_first}
+use Rattle.xml.specs.Names.{name-first}
 use Rattle.xml.specs.StepLaws.{step_start, out-start, finish-done}
 use Rattle.xml.specs.Goes.{Goes, goes_none, goes_then, goes-start, goes-lone, goes-timed, goes_end, goes-text, goes-white}
 
@@ -32,10 +32,10 @@ join-assoc (stamp t k r) g h = ap (stamp t k) (join-assoc r g h)
 
 -- ---- the texts of the grammar, from the left
 module _ (n u t : Bytes) where
-  element-text : (w s : Bytes) → bytes "<" ++ w ++ bytes ">" ++ s ++ bytes "</" ++ n ++ bytes ">" ++ u ++ t
-      ≡ code "<" ∷ (w ++ code ">" ∷ (s ++ code "<" ∷ code "/" ∷ (n ++ code ">" ∷ (u ++ t))))
+  element-text : (s : Bytes) → bytes "<" ++ n ++ bytes ">" ++ s ++ bytes "</" ++ n ++ bytes ">" ++ u ++ t
+      ≡ code "<" ∷ (n ++ code ">" ∷ (s ++ code "<" ∷ code "/" ∷ (n ++ code ">" ∷ (u ++ t))))
   unfolding bytes
-  element-text w s = simp append_assoc
+  element-text s = simp append_assoc
 
   lone-text : bytes "<" ++ n ++ bytes "/>" ++ u ++ t ≡ code "<" ∷ (n ++ code "/" ∷ code ">" ∷ (u ++ t))
   unfolding bytes
@@ -46,7 +46,7 @@ module _ (n u t : Bytes) where
   unfolding bytes
   times-text s = simp append_assoc
 
-pub slash-start : is_start (code "/") ≡ false
+slash-start : is_start (code "/") ≡ false
 unfolding bytes_compute
 slash-start = refl
 
@@ -54,16 +54,9 @@ slash-start = refl
 tag-next : {a : Bool} {u : Bytes} {r : Forest} (t : Bytes) → NotText r → Content a u r → (v : Bytes) × (u ++ code "<" ∷ t ≡ code "<" ∷ v)
 tag-next t n nothing = (t, refl)
 tag-next t n (run c e o m r) = absurd n
-tag-next t n (element {w = w} {n = x} {s = s} {u = u} e k r) = (_, element-text x u (code "<" ∷ t) w s)
-tag-next t n (lone {w = x} {u = u} e r) = (_, lone-text x u (code "<" ∷ t))
+tag-next t n (element {n = x} {s = s} {u = u} e k r) = (_, element-text x u (code "<" ∷ t) s)
+tag-next t n (lone {n = x} {u = u} e r) = (_, lone-text x u (code "<" ∷ t))
 tag-next t n (times {t = x} {s = s} {u = u} h e k r) = (_, times-text x u (code "<" ∷ t) s)
-
--- the end tag has the name of the start tag
-goes-shut : (a : Bool) {w n t : Bytes} → StartTag a w n t → (g : Forest) (st : Stack) (f : Forest) (u : Bytes) →
-    Goes a (inside (named t) g st) f (code "<" ∷ code "/" ∷ (n ++ code ">" ∷ u)) st (join g (elem t f end)) u
-goes-shut a {t = t} e g st f u =
-    subst (λ (x : Bytes). Goes a (inside (named t) g st) f (code "<" ∷ code "/" ∷ (x ++ code ">" ∷ u)) st (join g (elem t f end)) u) (start-name e)
-    (goes_end a (named t) g st f u)
 
 -- reading goes over content in an element
 goes-content : {a : Bool} {s : Bytes} {f : Forest} (o : Tag) (g : Forest) (st : Stack) (f₀ : Forest) (t : Bytes) → Content a s f →
@@ -76,21 +69,21 @@ goes-content {a} o g st f₀ t (run {s = s} {t = v} {u = u} {r = r} c e h n k) =
     rw join-assoc at (goes-content o g st (join f₀ (text v end)) t k)
     in
     rw (append_assoc s u (code "<" ∷ t), x.1) (goes_then (goes-text a o g st f₀ x.0 c e (clear-start h)) (rw x.1 at q))
-goes-content {a} o g st f₀ t (element {w = x} {n = n} {t = y} {s = s} {u = u} {k = k} {r = r} e c d) =
+goes-content {a} o g st f₀ t (element {n = n} {s = s} {u = u} {k = k} {r = r} e c d) =
     let here = inside o g st in
     let w = code "<" ∷ t in
     let v = s ++ code "<" ∷ code "/" ∷ (n ++ code ">" ∷ (u ++ w)) in
-    rw (element-text n u w x s)
-    (goes_then (goes-start a here f₀ v e (step_start a o g st f₀ (code "<") (x ++ code ">" ∷ v) refl (start_first (code ">" ∷ v) (code "/") e slash-start)))
-    (goes_then (goes-content (named y) f₀ here end (code "/" ∷ (n ++ code ">" ∷ (u ++ w))) c)
-    (goes_then (goes-shut a e f₀ here k (u ++ w)) (rw join-assoc at (goes-content o g st (join f₀ (elem y k end)) t d)))))
-goes-content {a} o g st f₀ t (lone {w = x} {t = y} {u = u} {r = r} e d) =
+    rw (element-text n u w s)
+    (goes_then (goes-start a here f₀ n v e (step_start a o g st f₀ (code "<") (n ++ code ">" ∷ v) refl (name-first n (code ">" ∷ v) (code "/") e slash-start)))
+    (goes_then (goes-content (named n) f₀ here end (code "/" ∷ (n ++ code ">" ∷ (u ++ w))) c)
+    (goes_then (goes_end a (named n) f₀ here k (u ++ w)) (rw join-assoc at (goes-content o g st (join f₀ (elem n k end)) t d)))))
+goes-content {a} o g st f₀ t (lone {n = n} {u = u} {r = r} e d) =
     let here = inside o g st in
     let w = code "<" ∷ t in
     let v = code "/" ∷ code ">" ∷ (u ++ w) in
-    rw (lone-text x u w)
-    (goes_then (goes-lone a here f₀ (u ++ w) e (step_start a o g st f₀ (code "<") (x ++ v) refl (start_first v (code "/") e slash-start)))
-    (rw join-assoc at (goes-content o g st (join f₀ (elem y end end)) t d)))
+    rw (lone-text n u w)
+    (goes_then (goes-lone a here f₀ n (u ++ w) e (step_start a o g st f₀ (code "<") (n ++ v) refl (name-first n v (code "/") e slash-start)))
+    (rw join-assoc at (goes-content o g st (join f₀ (elem n end end)) t d)))
 goes-content {a} o g st f₀ t (times {t = n} {s = s} {u = u} {k = k} {r = r} h e c d) =
     let here = inside o g st in
     let w = code "<" ∷ t in
@@ -109,8 +102,8 @@ pub content-end : {a : Bool} {u : Bytes} {r : Forest} → Content a u r → r �
 unfolding is_end
 content-end nothing e = refl
 content-end (run {t = t} {r = r} c e o n d) h = not_end (text t r) refl h
-content-end (element {t = t} {k = k} {r = r} e c d) h = not_end (elem t k r) refl h
-content-end (lone {t = t} {r = r} e d) h = not_end (elem t end r) refl h
+content-end (element {n = n} {k = k} {r = r} e c d) h = not_end (elem n k r) refl h
+content-end (lone {n = n} {r = r} e d) h = not_end (elem n end r) refl h
 content-end (times {t = t} {k = k} {r = r} h e c d) g = not_end (stamp t k r) refl g
 
 out-tag : (a : Bool) (s : Bytes) → step a outer end (code "<" ∷ s) ≡ start_tag a outer end s
@@ -121,13 +114,13 @@ goes-root : {a : Bool} {s : Bytes} {f : Forest} (t : Bytes) → Content a s f �
 unfolding join
 goes-root t nothing h = absurd h
 goes-root t (run c e o n d) h = absurd h
-goes-root {a} t (element {w = x} {n = n} {t = y} {s = s} {u = u} {k = k} {r = r} e c d) h =
+goes-root {a} t (element {n = n} {s = s} {u = u} {k = k} {r = r} e c d) h =
     let v = s ++ code "<" ∷ code "/" ∷ (n ++ code ">" ∷ t) in
-    rw (element-text n u t x s, content-end d h, h)
-    (goes_then (goes-start a outer end v e (out-tag a (x ++ code ">" ∷ v)))
-    (goes_then (goes-content (named y) end outer end (code "/" ∷ (n ++ code ">" ∷ t)) c) (goes-shut a e end outer k t)))
-goes-root {a} t (lone {w = x} {u = u} {r = r} e d) h =
-    rw (lone-text x u t, content-end d h, h) (goes-lone a outer end t e (out-tag a (x ++ code "/" ∷ code ">" ∷ t)))
+    rw (element-text n u t s, content-end d h, h)
+    (goes_then (goes-start a outer end n v e (out-tag a (n ++ code ">" ∷ v)))
+    (goes_then (goes-content (named n) end outer end (code "/" ∷ (n ++ code ">" ∷ t)) c) (goes_end a (named n) end outer k t)))
+goes-root {a} t (lone {n = n} {u = u} {r = r} e d) h =
+    rw (lone-text n u t, content-end d h, h) (goes-lone a outer end n t e (out-tag a (n ++ code "/" ∷ code ">" ∷ t)))
 goes-root {a} t (times {t = n} {s = s} {u = u} {k = k} {r = r} g e c d) h =
     let v = s ++ code "<" ∷ code "/" ∷ (bytes "T" ++ code ">" ∷ t) in
     rw (times-text n u t s, content-end d h, h)

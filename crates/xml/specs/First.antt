@@ -5,14 +5,13 @@ use Prim.Native.Char.{code}
 use Rattle.std.proofs.lemmas.Bool.{eqb-false}
 use Rattle.xml.specs.Bytes.{Bytes, bytes, same, is_white}
 use Rattle.xml.specs.Forest.{Forest, end, elem, text, join}
-use Rattle.xml.specs.Read.{common, unescape, scan, tag_len, tag_of, Tag, named, tag_name, tag_node, Stack, outer, inside, Move, move, wrong, Outcome, whole, broken, is_end, start_of, start_by, start_tag, end_of, end_tag, characters, step, finish, go, read}
+use Rattle.xml.specs.Read.{common, name_len, unescape, scan, Tag, named, tag_name, tag_node, Stack, outer, inside, Move, move, wrong, Outcome, whole, broken, is_end, start_of, start_tag, end_of, end_tag, characters, step, finish, go, read}
 use Rattle.xml.specs.declared.Run.{Run}
 use Rattle.xml.specs.declared.Run.TheVariants.{Upto, Stop}
-use Rattle.xml.specs.TagLaws.{tag_len-range}
-use Rattle.xml.specs.AttrsSame.{tag_len-same}
+use Rattle.xml.specs.ScanLaws.{name_len-fits}
 use Rattle.xml.specs.StepLaws.{StartCase, none, opens, lone, slash, times, bad, start-case, tag-none, tag_open, tag-bad, tag-times, tag-slash, tag-empty, step-chars, chars-upto, chars-stop, step_start, step_end, out-white, out-other, out-second, out-start}
+use Rattle.xml.specs.Agree.{Agrees, more, agrees-take, agrees-drop, get_d-same, take_same, name_len-same, common-same, scan-same}
 use Rattle.xml.specs.TextLaws.{place}
-use Rattle.xml.specs.Agree.{Agrees, more, agrees-take, agrees-drop, get_d-same, take_same, common-same, scan-same}
 use Rattle.xml.specs.TimedTags.{is-timed, reach_t, times-reach, times-same}
 
 -- ---- one step
@@ -38,13 +37,6 @@ start-reach a st f s n l = at (start-case a s n)
         rw (tag-times a st f s n z b d t) (omega (arith, (is-timed a s n l t).one, times-reach st f (drop 1 s) (common (bytes " t=\"") (drop 1 s))))
     at (bad z b d t) = rw (tag-bad a st f s n z b d t) (omega arith)
 
-tag-reach : (a : Bool) (st : Stack) (f : Forest) (s : Bytes) → 1 + place (tag_len a s) ≤ reach_t (start_tag a st f s)
-tag-reach a st f s = at (tag_len a s) (tag_len-range a s).1
-  where
-    at : (r : Run) → place r ≤ length s → 1 + place r ≤ reach_t (start_by a st f s r)
-    at (Upto n) l = start-reach a st f s n l
-    at (Stop k) l = omega arith
-
 end-reach : (o : Tag) (g : Forest) (st : Stack) (f : Forest) (s : Bytes) (m : ℕ) → 2 + m ≤ reach_t (end_of o g st f s m)
 unfolding end_of
 end-reach o g st f s m = pick (eqb m (length (tag_name o)) && eqb (get_or s m 0) (code ">"))
@@ -68,12 +60,12 @@ start-at a st f m n s s' ag l fits h = at (start-case a s n)
 
     at : StartCase a s n → start_of a st f s' n ≡ start_of a st f s n
     at (none z) = tag-none a st f s' n z ∙ sym (tag-none a st f s n z)
-    at (opens z b) = tag_open a st f s' n z (g ∙ b) ∙ ap (λ (x : Bytes). move (inside (named (tag_of x)) f st) end (1 + n)) t ∙ sym (tag_open a st f s n z b)
+    at (opens z b) = tag_open a st f s' n z (g ∙ b) ∙ ap (λ (x : Bytes). move (inside (named x) f st) end (1 + n)) t ∙ sym (tag_open a st f s n z b)
     at (lone z b d e) =
         let v = tag-empty a st f s n z b d e in
         let j : 2 + n ≤ m = subst (λ (x : Move). reach_t x ≤ m) v h in
         let g₂ = get_d-same m (1 + n) s s' (omega arith) ag in
-        tag-empty a st f s' n z (λ x. b (sym g ∙ x)) (g ∙ d) (g₂ ∙ e) ∙ ap (λ (x : Bytes). move st (join f (elem (tag_of x) end end)) (2 + n)) t ∙ sym v
+        tag-empty a st f s' n z (λ x. b (sym g ∙ x)) (g ∙ d) (g₂ ∙ e) ∙ ap (λ (x : Bytes). move st (join f (elem x end end)) (2 + n)) t ∙ sym v
     at (slash z b d e) =
         let v = tag-slash a st f s n z b d e in
         let j : 2 + n ≤ m = subst (λ (x : Move). reach_t x ≤ m) v h in
@@ -89,12 +81,8 @@ start-at a st f m n s s' ag l fits h = at (start-case a s n)
 
 pub start-same : (a : Bool) (st : Stack) (f : Forest) (m : ℕ) (s s' : Bytes) → Agrees m s s' → reach_t (start_tag a st f s) ≤ m → start_tag a st f s' ≡ start_tag a st f s
 start-same a st f m s s' ag h =
-    let l : place (tag_len a s) < m = omega (arith, tag-reach a st f s) in
-    ap (start_by a st f s') (tag_len-same a m s s' l ag) ∙ at (tag_len a s) l (tag_len-range a s).1 h
-  where
-    at : (r : Run) → place r < m → place r ≤ length s → reach_t (start_by a st f s r) ≤ m → start_by a st f s' r ≡ start_by a st f s r
-    at (Upto n) l i h = start-at a st f m n s s' ag l i h
-    at (Stop k) l i h = refl
+    let l : name_len s < m = omega (arith, start-reach a st f s (name_len s) (name_len-fits s)) in
+    ap (start_of a st f s') (name_len-same m s s' l ag) ∙ start-at a st f m (name_len s) s s' ag l (name_len-fits s) h
 
 end_same : (o : Tag) (g : Forest) (st : Stack) (f : Forest) (m : ℕ) (s s' : Bytes) → Agrees m s s' → reach_t (end_tag o g st f s) ≤ suc m →
     end_tag o g st f s' ≡ end_tag o g st f s
@@ -128,7 +116,7 @@ tags-same a o g st f zero b s s' e ag h = at (eqb (get_or s 0 0) (code "/")) ref
         absurd (omega (arith, end-reach o g st f (drop 1 s) (common (tag_name o) (drop 1 s))))
     at false p =
         let v = subst (λ (y : Move). reach_t y ≤ 0) (step_start a o g st f b s e (eqb-false (get_or s 0 0) (code "/") p)) h in
-        absurd (omega (arith, tag-reach a (inside o g st) f s))
+        absurd (omega (arith, start-reach a (inside o g st) f s (name_len s) (name_len-fits s)))
 tags-same a o g st f (suc m) b s s' e (more {b = d} {s = u} {s' = u'} ag) h = at (eqb d (code "/")) refl
   where
     at : (x : Bool) → eqb d (code "/") ≡ x → step a (inside o g st) f (b ∷ d ∷ u') ≡ step a (inside o g st) f (b ∷ d ∷ u)

@@ -3,26 +3,24 @@ use Rattle.std.specs.Prelude.{ℕ, ◌+◌, ◌*◌, ◌<◌, ◌≤◌, ◌≡�
 use Rattle.std.proofs.Common.{ap, arith, length-append, leb-true, leb-false}
 use Rattle.xml.specs.Bytes.{Bytes, bytes, same, is_empty}
 use Rattle.xml.specs.Forest.{Forest, end, elem, text, stamp, nodes, NotText, Root}
-use Rattle.xml.specs.Tags.{name_of, parts, count_but, attr_nodes, tag_nodes}
 use Rattle.xml.specs.Grammar.{Content, nothing, run, element, lone, times}
 use Rattle.xml.specs.Truth.{clash, by-test}
 use Rattle.xml.specs.Read.{Outcome, whole, broken, read}
-use Rattle.xml.specs.TagLaws.{start-attrs}
 use Rattle.xml.specs.Sound.{read-sound}
-use Rattle.xml.specs.Tape.{size, attrs_in}
+use Rattle.xml.specs.Tape.{size}
 use Rattle.xml.specs.State.{Overfull}
 
 -- how many elements have the name T, which `nodes` does not count
 unfoldable pub misnamed : Forest → ℕ
 misnamed end = 0
 misnamed (text b r) = misnamed r
-misnamed (elem n k r) = elim (same (name_of n) (bytes "T")) [ true ↦ 1 | false ↦ 0 ] + misnamed k + misnamed r
+misnamed (elem n k r) = elim (same n (bytes "T")) [ true ↦ 1 | false ↦ 0 ] + misnamed k + misnamed r
 misnamed (stamp t k r) = misnamed k + misnamed r
 
--- two cells a node, one an attribute, and a run of one byte has one: the cells are at most one more than the bytes, and no more where no run is first
+-- two cells a node, and a run of one byte has one: two cells a node are at most one more than the bytes, and no more where no run is first
 record Fits (s : Bytes) (f : Forest) : Type 0 where
-  most : 2 * size f + attrs_in f ≤ length s + 1
-  tight : NotText f → 2 * size f + attrs_in f ≤ length s
+  most : 2 * size f ≤ length s + 1
+  tight : NotText f → 2 * size f ≤ length s
 
 some-length : (s : Bytes) → is_empty s ≡ false → 1 ≤ length s
 unfolding is_empty
@@ -30,19 +28,17 @@ some-length [] e = clash e
 some-length (b ∷ s) e = omega arith
 
 content-fits : {a : Bool} {s : Bytes} {f : Forest} → Content a s f → Fits s f
-unfolding size attrs_in bytes
+unfolding size bytes
 content-fits nothing = record { most = omega arith; tight = λ n. omega arith }
 content-fits (run {s = s} {u = u} {r = r} c e o n k) =
-    let h : 2 * size r + attrs_in r ≤ length u = (content-fits k).tight n in
+    let h : 2 * size r ≤ length u = (content-fits k).tight n in
     record { most = simp length-append (omega (arith, h, some-length s e)); tight = λ x. absurd x }
 content-fits (element e c k) =
     let h = (content-fits c).most in
     let i = (content-fits k).most in
-    let j = start-attrs e in
     record { most = simp length-append (omega arith); tight = λ x. simp length-append (omega arith) }
 content-fits (lone e k) =
     let i = (content-fits k).most in
-    let j = start-attrs e in
     record { most = simp length-append (omega arith); tight = λ x. simp length-append (omega arith) }
 content-fits (times g e c k) =
     let h = (content-fits c).most in
@@ -56,42 +52,38 @@ root-first (text b g) r = r
 root-first (stamp t k g) r = tt
 
 -- a text needs no more cells than it has bytes
-pub version-fits : (a : Bool) (s : Bytes) (f : Forest) → read a s ≡ whole f → 2 * size f + attrs_in f ≤ length s
+pub version-fits : (a : Bool) (s : Bytes) (f : Forest) → read a s ≡ whole f → 2 * size f ≤ length s
 version-fits a s f e =
     let g = read-sound a s f e in
     let h = (content-fits g.content).tight (root-first f g.root) in
     omega (arith, h, ap length g.text-is, length-append (g.before ++ g.inner) g.after, length-append g.before g.inner)
 
--- an element that is not named T counts, and so do its attributes
-all-count : (n : Bytes) → ◌≡◌ {A = ℕ} (elim (same (name_of n) (bytes "T")) [ true ↦ 1 | false ↦ 0 ]) 0 → tag_nodes n ≡ 1 + length (parts 0 n)
-unfolding tag_nodes attr_nodes
-all-count n = at (same (name_of n) (bytes "T"))
+one-count : (n : Bytes) → elim (same n (bytes "T")) [ true ↦ 0 | false ↦ 1 ] + elim (same n (bytes "T")) [ true ↦ 1 | false ↦ 0 ] ≡ 1
+one-count n = at (same n (bytes "T"))
   where
-    at : (b : Bool) → ◌≡◌ {A = ℕ} (elim b [ true ↦ 1 | false ↦ 0 ]) 0 →
-        elim b [ true ↦ 0 | false ↦ 1 ] + elim b [ true ↦ count_but (bytes "t") (parts 0 n) | false ↦ length (parts 0 n) ] ≡ 1 + length (parts 0 n)
-    at true e = absurd (omega arith)
-    at false e = refl
+    at : (b : Bool) → elim b [ true ↦ 0 | false ↦ 1 ] + elim b [ true ↦ 1 | false ↦ 0 ] ≡ 1
+    at true = refl
+    at false = refl
 
 -- a `T` costs twelve bytes
-content-timed : {a : Bool} {s : Bytes} {f : Forest} → Content a s f → misnamed f ≡ 0 → 12 * (size f + attrs_in f) ≤ 12 * nodes f + length s
-unfolding size attrs_in nodes misnamed bytes
-content-timed nothing m = omega arith
-content-timed (run c e o n k) m = simp length-append (omega (arith, content-timed k m))
-content-timed (element {t = n} e c k) m =
-    simp length-append (omega (arith, content-timed c (omega arith), content-timed k (omega arith), all-count n (omega arith)))
-content-timed (lone {t = n} e k) m = simp length-append (omega (arith, content-timed k (omega arith), all-count n (omega arith)))
-content-timed (times g e c k) m = simp length-append (omega (arith, content-timed c (omega arith), content-timed k (omega arith)))
+content-timed : {a : Bool} {s : Bytes} {f : Forest} → Content a s f → 12 * size f ≤ 12 * (nodes f + misnamed f) + length s
+unfolding size nodes misnamed bytes
+content-timed nothing = omega arith
+content-timed (run c e o n k) = simp length-append (omega (arith, content-timed k))
+content-timed (element {n = n} e c k) = simp length-append (omega (arith, content-timed c, content-timed k, one-count n))
+content-timed (lone {n = n} e k) = simp length-append (omega (arith, content-timed k, one-count n))
+content-timed (times g e c k) = simp length-append (omega (arith, content-timed c, content-timed k))
 
--- where no element is named T, there is, besides the nodes that count, a node for each twelve bytes
-pub timed-fits : (a : Bool) (s : Bytes) (f : Forest) → read a s ≡ whole f → misnamed f ≡ 0 → 12 * (size f + attrs_in f) ≤ 12 * nodes f + length s
-timed-fits a s f e m =
+-- besides the nodes that count, and elements named T, there is a node for each twelve bytes
+pub timed-fits : (a : Bool) (s : Bytes) (f : Forest) → read a s ≡ whole f → 12 * size f ≤ 12 * (nodes f + misnamed f) + length s
+timed-fits a s f e =
     let g = read-sound a s f e in
-    let h = content-timed g.content m in
+    let h = content-timed g.content in
     omega (arith, h, ap length g.text-is, length-append (g.before ++ g.inner) g.after, length-append g.before g.inner)
 
 -- an archive of at most 1,024 nodes fits into 7,508 cells
-pub archive-fits : (s : Bytes) (f : Forest) → read true s ≡ whole f → nodes f ≤ 1024 → misnamed f ≡ 0 → length s ≤ 32768 → 2 * size f + attrs_in f ≤ 7508
-archive-fits s f e n m l = omega (arith, timed-fits true s f e m)
+pub archive-fits : (s : Bytes) (f : Forest) → read true s ≡ whole f → nodes f ≤ 1024 → misnamed f ≡ 0 → length s ≤ 32768 → 2 * size f ≤ 7508
+archive-fits s f e n m l = omega (arith, timed-fits true s f e)
 
 -- ---- what it says that a tape is too short
 -- of one cell a byte: that the text is wrong

@@ -1,13 +1,12 @@
 -- A forest of XML nodes, and its written form.
 use Rattle.std.specs.Prelude.{ℕ, ◌+◌, max, ◌≡◌, refl, Bool, true, false, not, ◌&&◌, ◌||◌, List, [], ◌∷◌, ◌++◌, eqb}
 use Prim.Native.Char.{code}
-use Rattle.xml.specs.Bytes.{Bytes, bytes, all, same, is_empty, is_meant, is_times}
-use Rattle.xml.specs.Tags.{name_of, tag_nodes, Written, tags_compute}
+use Rattle.xml.specs.Bytes.{Bytes, bytes, all, same, is_empty, is_meant, is_name, is_times, bytes_compute}
 
--- an element with its tag (a name, with attributes in their written form) and what it holds, a run of text, or an archive's `<T t="..">`, each with the siblings after it
+-- an element with what it holds, a run of text, or an archive's `<T t="..">`, each with the siblings after it
 pub data Forest : Type 0 where
   end : Forest
-  elem : (tag : Bytes) (kids rest : Forest) → Forest
+  elem : (name : Bytes) (kids rest : Forest) → Forest
   text : (run : Bytes) (rest : Forest) → Forest
   stamp : (times : Bytes) (kids rest : Forest) → Forest
 
@@ -29,14 +28,14 @@ escape (b ∷ s) =
 unfoldable pub write : Forest → Bytes
 write end = []
 write (text b r) = escape b ++ write r
-write (elem n k r) = bytes "<" ++ n ++ bytes ">" ++ write k ++ bytes "</" ++ name_of n ++ bytes ">" ++ write r
+write (elem n k r) = bytes "<" ++ n ++ bytes ">" ++ write k ++ bytes "</" ++ n ++ bytes ">" ++ write r
 write (stamp t k r) = bytes "<T t=\"" ++ t ++ bytes "\">" ++ write k ++ bytes "</T>" ++ write r
 
--- "Nodes are elements and kept maximal runs of text; `T` elements are not counted."; of attributes "Each is a node"
+-- "Nodes are elements and kept maximal runs of text; `T` elements are not counted."
 unfoldable pub nodes : Forest → ℕ
 nodes end = 0
 nodes (text b r) = 1 + nodes r
-nodes (elem n k r) = tag_nodes n + nodes k + nodes r
+nodes (elem n k r) = elim (same n (bytes "T")) [ true ↦ 0 | false ↦ 1 ] + nodes k + nodes r
 nodes (stamp t k r) = nodes k + nodes r
 
 -- "up to sixteen deep, the root being 1"
@@ -71,7 +70,7 @@ same_forest (stamp t k r) (elem m j s) = false
 same_forest (stamp t k r) (text c s) = false
 same_forest (stamp t k r) (stamp u j s) = same t u && same_forest k j && same_forest r s
 
--- ---- the forests that texts have: tags as they are written, runs that are legal and maximal, times in archives alone
+-- ---- the forests that texts have: names, runs that are legal and maximal, times in archives alone
 abbrev pub NotText : Forest → Type 0
 NotText end = Unit {0}
 NotText (elem n k r) = Unit {0}
@@ -80,7 +79,7 @@ NotText (stamp t k r) = Unit {0}
 
 abbrev pub Tidy : Bool → Forest → Type 0
 Tidy a end = Unit {0}
-Tidy a (elem n k r) = Written a n × Tidy a k × Tidy a r
+Tidy a (elem n k r) = (is_name n ≡ true) × Tidy a k × Tidy a r
 Tidy a (text b r) = (is_empty b ≡ false) × (all is_meant b ≡ true) × NotText r × Tidy a r
 Tidy a (stamp t k r) = (a ≡ true) × (all is_times t ≡ true) × Tidy a k × Tidy a r
 
@@ -92,5 +91,5 @@ Root (text b r) = ⊥
 Root (stamp t k r) = r ≡ end
 
 unfoldable pub forest_compute : Unit {0}
-unfolding tags_compute escape write nodes depth join same_forest
+unfolding bytes_compute escape write nodes depth join same_forest
 forest_compute = tt

@@ -5,18 +5,17 @@ use Rattle.std.proofs.Common.{zero-add, arith, ap, sym, ◌∙◌, length-append
 use Rattle.std.proofs.Math.Path.{refl}
 use Rattle.std.proofs.lemmas.Bool.{eqb-false}
 use Rattle.std.proofs.Math.Seq.{take-append_seam, drop-append_seam, get_or-append_seam, drop-append-add}
-use Rattle.xml.specs.Bytes.{Bytes, bytes, all, is_empty, is_name_byte, is_times, is_white, bytes_compute}
+use Rattle.xml.specs.Bytes.{Bytes, bytes, all, is_empty, is_name_byte, is_name, is_times, is_white, bytes_compute}
 use Rattle.xml.specs.Forest.{Forest, end, elem, text, join}
-use Rattle.xml.specs.Grammar.{Entity, lt, gt, amp, quot, apos, Characters, none, kept, joined, turned, entity, StartTag}
-use Rattle.xml.specs.Read.{common, times_len, scan, unescape, Tag, named, timed, tag_name, tag_node, Stack, outer, inside, move, tag_of, times_end, start_tag, end_of, characters, step, go, read_compute}
+use Rattle.xml.specs.Grammar.{Entity, lt, gt, amp, quot, apos, Characters, none, kept, joined, turned, entity}
+use Rattle.xml.specs.Read.{common, times_len, scan, unescape, Tag, named, timed, tag_name, tag_node, Stack, outer, inside, move, times_end, start_of, start_tag, end_of, characters, step, go, read_compute}
 use Rattle.xml.specs.Truth.{clash, both_true}
 use Rattle.xml.specs.GrammarLaws.{lt-markup, character-not, characters-mean}
 use Rattle.xml.specs.Clear.{Clear}
-use Rattle.xml.specs.Names.{times-all}
-use Rattle.xml.specs.TagLaws.{start-some, start-means, tag_len-all}
+use Rattle.xml.specs.Names.{name-all, name-some, times-all}
 use Rattle.xml.specs.ScanLaws.{common-self}
 use Rattle.xml.specs.Runs.{scan-characters}
-use Rattle.xml.specs.StepLaws.{go-skip, go-cons, step-chars, chars-upto, tag-upto, tag_open, tag-empty, times-end-good, step_end, end-good, out-white}
+use Rattle.xml.specs.StepLaws.{go-skip, go-cons, step-chars, chars-upto, tag_open, tag-empty, times-end-good, step_end, end-good, out-white}
 use Rattle.xml.specs.declared.Run.TheVariants.{Upto}
 
 -- reading comes from one state and text to another, wherever it is
@@ -41,7 +40,7 @@ goes_step a st st' f f' b k s s' e h d =
     }
 
 -- ---- start tags: `step` comes to `start_tag`
-module _ (a : Bool) (st : Stack) (f : Forest) {w n t : Bytes} (u : Bytes) (tag : StartTag a w n t) where
+module _ (a : Bool) (st : Stack) (f : Forest) (n u : Bytes) (name : is_name n ≡ true) where
   ends-name : is_name_byte (code ">") ≡ false
   unfolding bytes_compute
   ends-name = refl
@@ -50,36 +49,35 @@ module _ (a : Bool) (st : Stack) (f : Forest) {w n t : Bytes} (u : Bytes) (tag :
   unfolding bytes_compute
   slash-name = refl
 
-  pub goes-start : step a st f (code "<" ∷ (w ++ code ">" ∷ u)) ≡ start_tag a st f (w ++ code ">" ∷ u) → Goes a st f (code "<" ∷ (w ++ code ">" ∷ u)) (inside (named t) f st) end u
+  pub goes-start : step a st f (code "<" ∷ (n ++ code ">" ∷ u)) ≡ start_tag a st f (n ++ code ">" ∷ u) → Goes a st f (code "<" ∷ (n ++ code ">" ∷ u)) (inside (named n) f st) end u
   goes-start e =
-      let s = w ++ code ">" ∷ u in
-      let i : tag_of (take (length w) s) ≡ t = ap tag_of (take-append_seam w (code ">" ∷ u)) ∙ start-means tag in
-      let m : step a st f (code "<" ∷ s) ≡ move (inside (named t) f st) end (1 + length w) =
-      e ∙ tag-upto a st f s (length w) (tag_len-all (code ">") u tag ends-name (λ x. eqb-false (code ">") (code " ") refl x))
-      ∙ tag_open a st f s (length w) (start-some tag) (get_or-append_seam w (code ">") u 0)
-      ∙ ap (λ (x : Bytes). move (inside (named x) f st) end (1 + length w)) i
+      let s = n ++ code ">" ∷ u in
+      let t : take (length n) s ≡ n = take-append_seam n (code ">" ∷ u) in
+      let m : step a st f (code "<" ∷ s) ≡ move (inside (named n) f st) end (1 + length n) =
+      e ∙ ap (start_of a st f s) (name-all n (code ">") u name ends-name) ∙ tag_open a st f s (length n) (name-some n name) (get_or-append_seam n (code ">") u 0)
+      ∙ ap (λ (x : Bytes). move (inside (named x) f st) end (1 + length n)) t
       in
-      let j : 1 + length w ≡ length w + 1 = omega arith in
-      goes_step a st (inside (named t) f st) f end (code "<") (1 + length w) s u m (omega (arith, length-append w (code ">" ∷ u)))
-      (ap (λ (i : ℕ). drop i s) j ∙ drop-append-add w (code ">" ∷ u) 1)
+      let j : 1 + length n ≡ length n + 1 = omega arith in
+      goes_step a st (inside (named n) f st) f end (code "<") (1 + length n) s u m (omega (arith, length-append n (code ">" ∷ u)))
+      (ap (λ (i : ℕ). drop i s) j ∙ drop-append-add n (code ">" ∷ u) 1)
 
-  pub goes-lone : step a st f (code "<" ∷ (w ++ code "/" ∷ code ">" ∷ u)) ≡ start_tag a st f (w ++ code "/" ∷ code ">" ∷ u) →
-      Goes a st f (code "<" ∷ (w ++ code "/" ∷ code ">" ∷ u)) st (join f (elem t end end)) u
+  pub goes-lone : step a st f (code "<" ∷ (n ++ code "/" ∷ code ">" ∷ u)) ≡ start_tag a st f (n ++ code "/" ∷ code ">" ∷ u) →
+      Goes a st f (code "<" ∷ (n ++ code "/" ∷ code ">" ∷ u)) st (join f (elem n end end)) u
   goes-lone e =
       let v = code "/" ∷ code ">" ∷ u in
-      let s = w ++ v in
-      let h : tag_of (take (length w) s) ≡ t = ap tag_of (take-append_seam w v) ∙ start-means tag in
-      let c : get_or s (length w) 0 ≡ code "/" = get_or-append_seam w (code "/") (code ">" ∷ u) 0 in
-      let i : 1 + length w ≡ length w + 1 = omega arith in
-      let g : get_or s (1 + length w) 0 ≡ code ">" = ap (λ (x : ℕ). get_or s x 0) i ∙ get_or-append-add w v 1 0 in
-      let m : step a st f (code "<" ∷ s) ≡ move st (join f (elem t end end)) (2 + length w) =
-      e ∙ tag-upto a st f s (length w) (tag_len-all (code "/") (code ">" ∷ u) tag slash-name (λ x. eqb-false (code "/") (code " ") refl x))
-      ∙ tag-empty a st f s (length w) (start-some tag) (λ x. eqb-false (code "/") (code ">") refl (sym c ∙ x)) c g
-      ∙ ap (λ (x : Bytes). move st (join f (elem x end end)) (2 + length w)) h
+      let s = n ++ v in
+      let t : take (length n) s ≡ n = take-append_seam n v in
+      let c : get_or s (length n) 0 ≡ code "/" = get_or-append_seam n (code "/") (code ">" ∷ u) 0 in
+      let i : 1 + length n ≡ length n + 1 = omega arith in
+      let g : get_or s (1 + length n) 0 ≡ code ">" = ap (λ (x : ℕ). get_or s x 0) i ∙ get_or-append-add n v 1 0 in
+      let m : step a st f (code "<" ∷ s) ≡ move st (join f (elem n end end)) (2 + length n) =
+      e ∙ ap (start_of a st f s) (name-all n (code "/") (code ">" ∷ u) name slash-name)
+      ∙ tag-empty a st f s (length n) (name-some n name) (λ x. eqb-false (code "/") (code ">") refl (sym c ∙ x)) c g
+      ∙ ap (λ (x : Bytes). move st (join f (elem x end end)) (2 + length n)) t
       in
-      let j : 2 + length w ≡ length w + 2 = omega arith in
-      goes_step a st st f (join f (elem t end end)) (code "<") (2 + length w) s u m (omega (arith, length-append w v))
-      (ap (λ (x : ℕ). drop x s) j ∙ drop-append-add w v 2)
+      let j : 2 + length n ≡ length n + 2 = omega arith in
+      goes_step a st st f (join f (elem n end end)) (code "<") (2 + length n) s u m (omega (arith, length-append n v))
+      (ap (λ (x : ℕ). drop x s) j ∙ drop-append-add n v 2)
 
 -- an archive's `<T t="..">`
 module _ (st : Stack) (f : Forest) (t u : Bytes) (many : all is_times t ≡ true) where

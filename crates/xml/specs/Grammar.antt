@@ -39,10 +39,10 @@ pub data Content (a : Bool) : Bytes → Forest → Type 0 where
   nothing : Content a [] end
   -- a maximal run of text; "`]]>` is illegal"
   run : {s t u : Bytes} {r : Forest} → Characters s t → is_empty s ≡ false → occurs (bytes "]]>") s ≡ false → NotText r → Content a u r → Content a (s ++ u) (text t r)
-  -- "Tags are `<name>`, `</name>`, `<name/>`, with no white space inside", but before attributes
-  element : {w n t s u : Bytes} {k r : Forest} → StartTag a w n t → Content a s k → Content a u r
-      → Content a (bytes "<" ++ w ++ bytes ">" ++ s ++ bytes "</" ++ n ++ bytes ">" ++ u) (elem t k r)
-  lone : {w n t u : Bytes} {r : Forest} → StartTag a w n t → Content a u r → Content a (bytes "<" ++ w ++ bytes "/>" ++ u) (elem t end r)
+  -- "Tags are `<name>`, `</name>`, `<name/>`, with no white space inside."
+  element : {n s u : Bytes} {k r : Forest} → is_name n ≡ true → Content a s k → Content a u r
+      → Content a (bytes "<" ++ n ++ bytes ">" ++ s ++ bytes "</" ++ n ++ bytes ">" ++ u) (elem n k r)
+  lone : {n u : Bytes} {r : Forest} → is_name n ≡ true → Content a u r → Content a (bytes "<" ++ n ++ bytes "/>" ++ u) (elem n end r)
   -- an archive's `<T t="..">`
   times : {t s u : Bytes} {k r : Forest} → a ≡ true → all is_times t ≡ true → Content a s k → Content a u r
       → Content a (bytes "<T t=\"" ++ t ++ bytes "\">" ++ s ++ bytes "</T>" ++ u) (stamp t k r)

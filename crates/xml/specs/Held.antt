@@ -3,39 +3,29 @@ use Rattle.std.specs.Prelude.{ℕ, ◌+◌, ◌*◌, ◌-◌, ◌<◌, ◌≤◌
 use Rattle.std.proofs.Common.{ap, sym, ◌∙◌, subst, arith, length-set, get_or-set_same, get_or-set_other}
 use Rattle.xml.specs.Bytes.{Bytes}
 use Rattle.xml.specs.Forest.{Forest, end, elem, text, stamp, join}
-use Rattle.xml.specs.Tags.{parts}
 use Rattle.xml.specs.Read.{Tag, named, timed, tag_node, Stack, outer, inside}
-use Rattle.xml.specs.Tape.{head_at, next_at, Node, Tagged, Tape, at-end, at-elem, at-stamp, size, attrs_in}
-use Rattle.xml.specs.TapeLaws.{Kept, kept-part, tape-le, tape-size, tape-join, node-same, tagged-same, tape-same}
+use Rattle.xml.specs.Tape.{next_at, Node, Tape, at-end, at-elem, at-stamp, size}
+use Rattle.xml.specs.TapeLaws.{Kept, kept-part, tape-le, tape-size, tape-join, node-same, tape-same}
 
--- an open node's kind, and its node
+-- an open node's kind, and the bytes of the text that name it
 abbrev pub tag_kind : Tag → ℕ
 tag_kind (named n) = 1
 tag_kind (timed t) = 2
 
-pub data TagNode (src cells : List ℕ) (p : ℕ) : Tag → Type 0 where
-  element-node : {n : Bytes} → Tagged src cells p n → TagNode src cells p (named n)
-  times-node : {t : Bytes} → Node src cells p 2 t → TagNode src cells p (timed t)
+abbrev pub tag_bytes : Tag → Bytes
+tag_bytes (named n) = n
+tag_bytes (timed t) = t
 
 -- how many nodes there are, open ones among them
 unfoldable pub stack_size : Stack → Forest → ℕ
 stack_size outer f = size f
 stack_size (inside o g st) f = 1 + size f + stack_size st g
 
--- how many attributes an open node's tag has, and all that there are
-abbrev pub tag_attrs : Tag → ℕ
-tag_attrs (named n) = length (parts 0 n)
-tag_attrs (timed t) = 0
-
-unfoldable pub stack_attrs : Stack → Forest → ℕ
-stack_attrs outer f = attrs_in f
-stack_attrs (inside o g st) f = tag_attrs o + attrs_in f + stack_attrs st g
-
 -- the first n nodes are what was read: `top` is one more than the number of the innermost open node, or 0; f is what stands in it; the
 -- second cell of an open node holds the `top` of the node around it
 pub data Held (src cells : List ℕ) : Stack → Forest → ℕ → ℕ → Type 0 where
   held_none : {f : Forest} {top n : ℕ} → top ≡ 0 → Tape src cells 0 n f → Held src cells outer f top n
-  held_in : {o : Tag} {g f : Forest} {st : Stack} {top n : ℕ} → 0 < top → TagNode src cells (top - 1) o → Tape src cells top n f
+  held_in : {o : Tag} {g f : Forest} {st : Stack} {top n : ℕ} → 0 < top → Node src cells (top - 1) (tag_kind o) (tag_bytes o) → Tape src cells top n f
       → Held src cells st g (next_at cells (top - 1)) (top - 1) → Held src cells (inside o g st) f top n
 
 pub size-join : (f g : Forest) → size (join f g) ≡ size f + size g
@@ -49,18 +39,6 @@ pub size-node : (o : Tag) (f : Forest) → size (tag_node o f) ≡ 1 + size f
 unfolding size
 size-node (named n) f = omega arith
 size-node (timed t) f = omega arith
-
-pub attrs-join : (f g : Forest) → attrs_in (join f g) ≡ attrs_in f + attrs_in g
-unfolding attrs_in join
-attrs-join end g = omega arith
-attrs-join (text b r) g = omega (arith, attrs-join r g)
-attrs-join (elem n k r) g = omega (arith, attrs-join r g)
-attrs-join (stamp t k r) g = omega (arith, attrs-join r g)
-
-pub attrs-node : (o : Tag) (f : Forest) → attrs_in (tag_node o f) ≡ tag_attrs o + attrs_in f
-unfolding attrs_in
-attrs-node (named n) f = omega arith
-attrs-node (timed t) f = omega arith
 
 module _ {src cells : List ℕ} where
   pub held-le : {st : Stack} {f : Forest} {top n : ℕ} → Held src cells st f top n → top ≤ n
@@ -78,38 +56,34 @@ module _ {src cells : List ℕ} where
   held_more (held_in p d t h) u = held_in p d (tape-join t u) h
 
   -- a node is opened
-  pub held-open : {st : Stack} {f : Forest} {top n : ℕ} (o : Tag) → Held src cells st f top n → TagNode src cells n o → next_at cells n ≡ top →
+  pub held-open : {st : Stack} {f : Forest} {top n : ℕ} (o : Tag) → Held src cells st f top n → Node src cells n (tag_kind o) (tag_bytes o) → next_at cells n ≡ top →
       Held src cells (inside o f st) end (n + 1) (n + 1)
   held-open {st} {f} {top} {n} o h d e =
       let q : n ≡ n + 1 - 1 = omega arith in
-      held_in {top = n + 1} (omega arith) (subst (λ (x : ℕ). TagNode src cells x o) q d) (at-end refl)
+      held_in {top = n + 1} (omega arith) (subst (λ (x : ℕ). Node src cells x (tag_kind o) (tag_bytes o)) q d) (at-end refl)
       (subst (λ (x : ℕ). Held src cells st f (next_at cells x) x) q (subst (λ (y : ℕ). Held src cells st f y n) (sym e) h))
 
   -- the node of a tag that was closed
-  tag-tape : {p q : ℕ} {f : Forest} {o : Tag} → TagNode src cells p o → Tape src cells (p + 1) (next_at cells p) f → next_at cells p ≡ q →
+  tag-tape : {p q : ℕ} {f : Forest} (o : Tag) → Node src cells p (tag_kind o) (tag_bytes o) → Tape src cells (p + 1) (next_at cells p) f → next_at cells p ≡ q →
       Tape src cells p q (tag_node o f)
-  tag-tape (element-node d) t e = at-elem d t (at-end e)
-  tag-tape (times-node d) t e = at-stamp d t (at-end e)
+  tag-tape (named n) d t e = at-elem d t (at-end e)
+  tag-tape (timed n) d t e = at-stamp d t (at-end e)
 
 module _ {src cells : List ℕ} (new : List ℕ) where
-  tag_same : {p n : ℕ} {o : Tag} → head_at new n ≡ head_at cells p → 2 * n + 1 < length new → TagNode src cells p o → TagNode src new n o
-  tag_same e l (element-node d) = element-node (tagged-same new e l d)
-  tag_same e l (times-node d) = times-node (node-same new e l d)
-
   pub held_same : {st : Stack} {f : Forest} {top n : ℕ} → Kept cells new 0 n → Held src cells st f top n → Held src new st f top n
   held_same a (held_none e t) = held_none e (tape-same new a t)
-  held_same {top = top} {n = n} a (held_in {g = g} {f = f} {st = st} p d t h) =
+  held_same {top = top} {n = n} a (held_in {o = o} {g = g} {f = f} {st = st} p d t h) =
       let l = tape-le t in
       let room = a.room in
       let x : next_at new (top - 1) ≡ next_at cells (top - 1) = a.same (2 * (top - 1) + 1) (omega arith) (omega arith) in
-      held_in p (tag_same (a.same (2 * (top - 1)) (omega arith) (omega arith)) (omega arith) d)
+      held_in p (node-same new (a.same (2 * (top - 1)) (omega arith) (omega arith)) (omega arith) d)
       (tape-same new (kept-part (omega arith) (omega arith) a) t)
       (subst (λ (y : ℕ). Held src new st g y (top - 1)) (sym x) (held_same (kept-part (omega arith) (omega arith) a) h))
 
   -- the open node is closed
   pub held-close : {o : Tag} {g f : Forest} {st : Stack} {top n : ℕ} → Held src cells (inside o g st) f top n → 2 * n ≤ length cells →
       new ≡ set cells (2 * (top - 1) + 1) n → Held src new st (join g (tag_node o f)) (next_at cells (top - 1)) n
-  held-close {g = g} {f} {st} {top} {n} (held_in p d t h) room e =
+  held-close {o} {g} {f} {st} {top} {n} (held_in p d t h) room e =
       let l = tape-le t in
       let i : ℕ = 2 * (top - 1) + 1 in
       let long : length new ≡ length cells = ap length e ∙ length-set cells i n in
@@ -121,5 +95,5 @@ module _ {src cells : List ℕ} (new : List ℕ) where
       let below : Kept cells new 0 (top - 1) = record { room = omega arith; same = λ j x y. other j (λ z. omega arith) } in
       let q : top ≡ top - 1 + 1 = omega arith in
       held_more (held_same below h)
-      (tag-tape (tag_same (other (2 * (top - 1)) (λ z. omega arith)) (omega arith) d)
+      (tag-tape o (node-same new (other (2 * (top - 1)) (λ z. omega arith)) (omega arith) d)
       (subst (λ (y : ℕ). Tape src new (top - 1 + 1) y f) (sym next) (subst (λ (y : ℕ). Tape src new y n f) q (tape-same new above t))) next)

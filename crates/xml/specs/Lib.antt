@@ -33,15 +33,11 @@ pub mod TagLaws
 pub mod TagParts
 pub mod TagPlaces
 pub mod NextPart
-pub mod TagSums
 pub mod TagWritten
-pub mod TagAsWritten
-pub mod TagValues
+pub mod TagSums
 pub mod TagSame
-pub mod TagSets
 pub mod Goes
 pub mod Complete
-pub mod TagSpelled
 pub mod Opened
 pub mod StepSound
 pub mod Sound
@@ -58,7 +54,6 @@ pub mod Tight
 pub mod Held
 pub mod GoSize
 pub mod Tokens
-pub mod TagsRead
 pub mod State
 pub mod Closing
 pub mod LiveTags
@@ -71,7 +66,6 @@ pub mod SameTapes
 pub mod CompareLaws
 pub mod NameCells
 pub mod NameCellLaws
-pub mod Ranked
 pub mod AttrPlaces
 pub mod Alike
 pub mod Ends
@@ -81,7 +75,6 @@ pub mod Neat
 pub mod NeatLaws
 pub mod NeatWritten
 pub mod NeatSpelled
-pub mod NeatBare
 pub mod Canonical
 pub mod CanonicalLaws
 pub mod ByteTests

@@ -1,13 +1,13 @@
 -- Line ends: a text spells what it spells with CR LF and lone CR read as LF, no more and no less; what is written has no CR.
-use Rattle.std.specs.Prelude.{ℕ, ◌+◌, ◌<◌, ◌≡◌, Bool, true, false, not, ◌&&◌, ◌||◌, eqb, length, take, get_or}
+use Rattle.std.specs.Prelude.{ℕ, ◌+◌, ◌<◌, ◌≡◌, Bool, true, false, ◌&&◌, ◌||◌, eqb, length, take, get_or}
 use Prim.Native.Char.{code}
-use Rattle.std.proofs.Common.{arith, ap₂, sym, ◌∙◌, subst, eqb-true, eq-eqb, ne_eqb}
+use Rattle.std.proofs.Common.{arith, ap₂, sym, ◌∙◌, subst}
 use Rattle.std.proofs.Math.Path.{refl, ap}
-use mathlib.Core.List.{List, [], ◌∷◌, ◌++◌, append_assoc, append-nil}
-use Rattle.std.proofs.lemmas.Bool.{eqb-false}
+use mathlib.Core.List.{[], ◌∷◌, ◌++◌, append_assoc, append-nil}
+use borrow.Author.Tests.{eqb-true, eqb-false, eq-eqb, ne_eqb}
 use Rattle.xml.specs.Bytes.{Bytes, bytes, all, starts, occurs, is_empty, is_white, is_character, is_name_byte, is_name, is_times, line_ends, bytes_compute}
-use Rattle.xml.specs.Forest.{Forest, end, elem, text, stamp, escape, write, NotText, Tidy, Root}
-use Rattle.xml.specs.Grammar.{Entity, lt, gt, amp, quot, apos, Characters, none, kept, joined, turned, entity, Attributes, none as no-attribute, more, StartTag, bare, attributed, Content, nothing, run, element, lone, times, Spells}
+use Rattle.xml.specs.Forest.{Forest, end, elem, text, stamp, write, NotText, Tidy, Root}
+use Rattle.xml.specs.Grammar.{Entity, lt, gt, amp, quot, apos, Characters, none, kept, joined, turned, entity, Content, nothing, run, element, lone, times, Spells}
 use Rattle.xml.specs.Read.{whole, broken, read}
 use Rattle.xml.specs.Sound.{read-sound}
 use Rattle.xml.specs.Complete.{read-complete, content-end}
@@ -16,10 +16,7 @@ use Rattle.xml.specs.Live.{alive}
 use Rattle.xml.specs.CompareLaws.{return-white, feed-white}
 use Rattle.xml.specs.Truth.{by-test, clash, both_true}
 use Rattle.xml.specs.Neat.{count}
-use Rattle.xml.specs.NeatWritten.{escape-signs, name-bytes, signs-returns}
-use Rattle.xml.specs.Tags.{Attr, is_quote, in_value, tags_compute}
-use Rattle.xml.specs.Fresh.{new-name}
-use Rattle.xml.specs.TagLaws.{written_start}
+use Rattle.xml.specs.NeatWritten.{write-signs, name-bytes, name-return, times-return, signs-returns}
 
 -- ---- byte by byte
 pub line-off : (b : ℕ) (s : Bytes) → (b ≡ code "\r" → ⊥) → line_ends (b ∷ s) ≡ b ∷ line_ends s
@@ -84,93 +81,17 @@ pub no-return-lines : {p : Bytes} → NoReturn p → (s : Bytes) → line_ends (
 no-return-lines lacks-nil s = refl
 no-return-lines (lacks-more {b = b} {s = p} n f) s = line-off b (p ++ s) n ∙ ap (b ∷◌) (no-return-lines f s)
 
--- a byte of line ends, which stands in no tag and in no entity
-data LineEnd : ℕ → Type 0 where
-  return : LineEnd (code "\r")
-  feed : LineEnd (code "\n")
-
-word-lacks : {c : ℕ} → LineEnd c → (w : Bytes) → count (code "\r") w ≡ 0 → count (code "\n") w ≡ 0 → Lacks c w
-word-lacks return w e f = counted w e
-word-lacks feed w e f = counted w f
-
-name-not : {c : ℕ} → LineEnd c → is_name_byte c ≡ false
-unfolding bytes_compute
-name-not return = refl
-name-not feed = refl
-
-times-not : {c : ℕ} → LineEnd c → is_times c ≡ false
-unfolding bytes_compute
-times-not return = refl
-times-not feed = refl
-
-quote-not : {c : ℕ} → LineEnd c → is_quote c ≡ false
-unfolding tags_compute
-quote-not return = refl
-quote-not feed = refl
-
-value_not : {c : ℕ} → LineEnd c → (q : ℕ) → in_value q c ≡ false
-unfolding tags_compute
-value_not l q = at l
-  where
-    never : (x : Bool) → not (x || true) ≡ false
-    never true = refl
-    never false = refl
-
-    at : {c : ℕ} → LineEnd c → in_value q c ≡ false
-    at return = never (eqb (code "\r") q)
-    at feed = never (eqb (code "\n") q)
-
-module _ {c : ℕ} (l : LineEnd c) where
-  entity-lacks : {e : Bytes} {b : ℕ} → Entity e b → Lacks c e
-  unfolding bytes count
-  entity-lacks lt = word-lacks l (bytes "&lt;") refl refl
-  entity-lacks gt = word-lacks l (bytes "&gt;") refl refl
-  entity-lacks amp = word-lacks l (bytes "&amp;") refl refl
-  entity-lacks quot = word-lacks l (bytes "&quot;") refl refl
-  entity-lacks apos = word-lacks l (bytes "&apos;") refl refl
-
-  times-lacks : (t : Bytes) → all is_times t ≡ true → Lacks c t
-  times-lacks t e = by_bytes is_times (times-not l) t e
-
-  attributes-lacks : {used : List Bytes} {u : Bytes} {k : List Attr} → Attributes used u k → Lacks c u
-  unfolding bytes count
-  attributes-lacks no-attribute = lacks-nil
-  attributes-lacks {used} (more {n = n} {s = s} q new quote h within r) =
-      let m : q ≡ c → ⊥ = λ d. clash (sym quote ∙ ap is_quote d ∙ quote-not l) in
-      lacks-then
-      (lacks-then (lacks-then (lacks-then (word-lacks l (bytes " ") refl refl) (name-lacks (name-not l) n (new-name used n new))) (word-lacks l (bytes "=") refl refl))
-      (lacks-more m (by_bytes (in_value q) (value_not l q) s within)))
-      (lacks-more m (attributes-lacks r))
-
-  -- what stands in a start tag, and the name in it
-  start-lacks : {a : Bool} {w n t : Bytes} → StartTag a w n t → Lacks c w × Lacks c n
-  start-lacks (bare {n = n} e) = let f = name-lacks (name-not l) n e in (f, f)
-  start-lacks (attributed {n = n} e h r) = let f = name-lacks (name-not l) n e in (lacks-then f (attributes-lacks r), f)
+entity-no-return : {e : Bytes} {c : ℕ} → Entity e c → NoReturn e
+unfolding bytes count
+entity-no-return lt = counted (bytes "&lt;") refl
+entity-no-return gt = counted (bytes "&gt;") refl
+entity-no-return amp = counted (bytes "&amp;") refl
+entity-no-return quot = counted (bytes "&quot;") refl
+entity-no-return apos = counted (bytes "&apos;") refl
 
 -- what is written has no CR, and stands for itself
-lacks-count : {c : ℕ} {s : Bytes} → Lacks c s → count c s ≡ 0
-unfolding count
-lacks-count lacks-nil = refl
-lacks-count {c} (lacks-more {b = b} n f) = rw (ne_eqb b c n) (omega (arith, lacks-count f))
-
-write-lacks : (a : Bool) (f : Forest) → Tidy a f → NoReturn (write f)
-unfolding write bytes count
-write-lacks a end t = lacks-nil
-write-lacks a (text b r) t = lacks-then (counted (escape b) (signs-returns (escape-signs b t.1))) (write-lacks a r t.3)
-write-lacks a (elem n k r) t =
-    let f = start-lacks return (written_start t.0) in
-    lacks-then
-    (lacks-then
-    (lacks-then (lacks-then (lacks-then (lacks-then (lacks-then (counted (bytes "<") refl) f.0) (counted (bytes ">") refl)) (write-lacks a k t.1)) (counted (bytes "</") refl)) f.1)
-    (counted (bytes ">") refl))
-    (write-lacks a r t.2)
-write-lacks a (stamp u k r) t =
-    lacks-then
-    (lacks-then (lacks-then (lacks-then (lacks-then (counted (bytes "<T t=\"") refl) (times-lacks return u t.1)) (counted (bytes "\">") refl)) (write-lacks a k t.2)) (counted (bytes "</T>") refl))
-    (write-lacks a r t.3)
-
 pub write-returns : (a : Bool) (f : Forest) → Tidy a f → count (code "\r") (write f) ≡ 0
-write-returns a f t = lacks-count (write-lacks a f t)
+write-returns a f t = signs-returns (write-signs a f t)
 
 pub no-return-self : (s : Bytes) → count (code "\r") s ≡ 0 → line_ends s ≡ s
 unfolding line_ends
@@ -296,6 +217,18 @@ pub name-feed : is_name_byte (code "\n") ≡ false
 unfolding bytes_compute
 name-feed = refl
 
+times-feed : is_times (code "\n") ≡ false
+unfolding bytes_compute
+times-feed = refl
+
+entity-no-feed : {e : Bytes} {c : ℕ} → Entity e c → NoFeed e
+unfolding bytes count
+entity-no-feed lt = counted (bytes "&lt;") refl
+entity-no-feed gt = counted (bytes "&gt;") refl
+entity-no-feed amp = counted (bytes "&amp;") refl
+entity-no-feed quot = counted (bytes "&quot;") refl
+entity-no-feed apos = counted (bytes "&apos;") refl
+
 -- ---- a run of text
 -- a byte of the text once its line ends are read, and how it stood before
 data Stood (s : Bytes) (b : ℕ) (x : Bytes) : Type 0 where
@@ -323,7 +256,7 @@ chars-lines none = none
 chars-lines (kept {b = b} {s = s} e n c) = rw (line-off b s n) (kept e n (chars-lines c))
 chars-lines (joined {b = b} {s = s} e f c) = rw (line-joined b s e f) (chars-lines c)
 chars-lines (turned {b = b} {s = s} e f c) = rw (line-turned b s e f) (kept refl feed-return (chars-lines c))
-chars-lines (entity {s = s} e c) = rw (no-return-lines (entity-lacks return e) s) (entity e (chars-lines c))
+chars-lines (entity {s = s} e c) = rw (no-return-lines (entity-no-return e) s) (entity e (chars-lines c))
 
 nil-lines : (s : Bytes) → line_ends s ≡ [] → s ≡ []
 unfolding line_ends
@@ -349,7 +282,7 @@ chars-raw none s e = rw (nil-lines s e) none
 chars-raw (joined {b = b} {s = x} f g c) s e = absurd (read-no-return s b x e f)
 chars-raw (turned {b = b} {s = x} f g c) s e = absurd (read-no-return s b x e f)
 chars-raw (entity {e = w} {s = x} i c) s e =
-    let g = after (entity-lacks feed i) s x e in
+    let g = after (entity-no-feed i) s x e in
     rw g.is (entity i (chars-raw c g.later g.lines))
 chars-raw (kept {b = b} {s = x} {t = t} k n c) s e = at (stood s b x e) (λ u h. chars-raw c u h)
   where
@@ -439,49 +372,68 @@ parted {p} {q} s x u f g e =
       lines-later = c.lines;
     }
 
-abbrev opens : Bytes → Bytes
-opens w = bytes "<" ++ w ++ bytes ">"
+module _ (n : Bytes) where
+  abbrev opens : Bytes
+  opens = bytes "<" ++ n ++ bytes ">"
 
-abbrev closes : Bytes → Bytes
-closes n = bytes "</" ++ n ++ bytes ">"
+  abbrev closes : Bytes
+  closes = bytes "</" ++ n ++ bytes ">"
 
-abbrev lones : Bytes → Bytes
-lones w = bytes "<" ++ w ++ bytes "/>"
+  abbrev lones : Bytes
+  lones = bytes "<" ++ n ++ bytes "/>"
 
-abbrev timed : Bytes → Bytes
-timed t = bytes "<T t=\"" ++ t ++ bytes "\">"
+  abbrev timed : Bytes
+  timed = bytes "<T t=\"" ++ n ++ bytes "\">"
 
-element-parts : (w n s u : Bytes) → bytes "<" ++ w ++ bytes ">" ++ s ++ bytes "</" ++ n ++ bytes ">" ++ u ≡ parts (opens w) s (closes n) u
-element-parts w n s u = simp append_assoc
+  element-parts : (s u : Bytes) → bytes "<" ++ n ++ bytes ">" ++ s ++ bytes "</" ++ n ++ bytes ">" ++ u ≡ parts opens s closes u
+  element-parts s u = simp append_assoc
 
-times-parts : (t s u : Bytes) → bytes "<T t=\"" ++ t ++ bytes "\">" ++ s ++ bytes "</T>" ++ u ≡ parts (timed t) s (bytes "</T>") u
-times-parts t s u = simp append_assoc
+  times-parts : (s u : Bytes) → bytes "<T t=\"" ++ n ++ bytes "\">" ++ s ++ bytes "</T>" ++ u ≡ parts timed s (bytes "</T>") u
+  times-parts s u = simp append_assoc
 
-closes-head : (n u : Bytes) → get_or (closes n ++ u) 0 0 ≡ code "\n" → ⊥
-unfolding bytes
-closes-head n u e = eqb-false (code "<") (code "\n") refl e
-
--- a byte of line ends stands in none of the tags
-module _ {c : ℕ} (l : LineEnd c) where
-  opens-lacks : {w : Bytes} → Lacks c w → Lacks c (opens w)
+  opens-firm : NoReturn n → NoReturn opens
   unfolding bytes count
-  opens-lacks f = lacks-then (lacks-then (word-lacks l (bytes "<") refl refl) f) (word-lacks l (bytes ">") refl refl)
+  opens-firm f = lacks-then (lacks-then (counted (bytes "<") refl) f) (counted (bytes ">") refl)
 
-  closes-lacks : {n : Bytes} → Lacks c n → Lacks c (closes n)
+  closes-firm : NoReturn n → NoReturn closes
   unfolding bytes count
-  closes-lacks f = lacks-then (lacks-then (word-lacks l (bytes "</") refl refl) f) (word-lacks l (bytes ">") refl refl)
+  closes-firm f = lacks-then (lacks-then (counted (bytes "</") refl) f) (counted (bytes ">") refl)
 
-  lones-lacks : {w : Bytes} → Lacks c w → Lacks c (lones w)
+  lones-firm : NoReturn n → NoReturn lones
   unfolding bytes count
-  lones-lacks f = lacks-then (lacks-then (word-lacks l (bytes "<") refl refl) f) (word-lacks l (bytes "/>") refl refl)
+  lones-firm f = lacks-then (lacks-then (counted (bytes "<") refl) f) (counted (bytes "/>") refl)
 
-  timed-lacks : (t : Bytes) → all is_times t ≡ true → Lacks c (timed t)
+  timed-firm : NoReturn n → NoReturn timed
   unfolding bytes count
-  timed-lacks t e = lacks-then (lacks-then (word-lacks l (bytes "<T t=\"") refl refl) (times-lacks l t e)) (word-lacks l (bytes "\">") refl refl)
+  timed-firm f = lacks-then (lacks-then (counted (bytes "<T t=\"") refl) f) (counted (bytes "\">") refl)
 
-  last-lacks : Lacks c (bytes "</T>")
+  opens-smooth : NoFeed n → NoFeed opens
   unfolding bytes count
-  last-lacks = word-lacks l (bytes "</T>") refl refl
+  opens-smooth f = lacks-then (lacks-then (counted (bytes "<") refl) f) (counted (bytes ">") refl)
+
+  closes-smooth : NoFeed n → NoFeed closes
+  unfolding bytes count
+  closes-smooth f = lacks-then (lacks-then (counted (bytes "</") refl) f) (counted (bytes ">") refl)
+
+  lones-smooth : NoFeed n → NoFeed lones
+  unfolding bytes count
+  lones-smooth f = lacks-then (lacks-then (counted (bytes "<") refl) f) (counted (bytes "/>") refl)
+
+  timed-smooth : NoFeed n → NoFeed timed
+  unfolding bytes count
+  timed-smooth f = lacks-then (lacks-then (counted (bytes "<T t=\"") refl) f) (counted (bytes "\">") refl)
+
+  closes-head : (u : Bytes) → get_or (closes ++ u) 0 0 ≡ code "\n" → ⊥
+  unfolding bytes
+  closes-head u e = eqb-false (code "<") (code "\n") refl e
+
+last-firm : NoReturn (bytes "</T>")
+unfolding bytes count
+last-firm = counted (bytes "</T>") refl
+
+last-smooth : NoFeed (bytes "</T>")
+unfolding bytes count
+last-smooth = counted (bytes "</T>") refl
 
 last-head : (u : Bytes) → get_or (bytes "</T>" ++ u) 0 0 ≡ code "\n" → ⊥
 unfolding bytes
@@ -501,16 +453,17 @@ unfolding line_ends
 content-lines nothing = nothing
 content-lines (run {s = s} {u = u} c e o n k) =
     rw (lines-append s u (tag-head k n)) (run (chars-lines c) (empty-lines s ∙ e) (closes-lines s ∙ o) n (content-lines k))
-content-lines {a} (element {w = w} {n = n} {t = tag} {s = s} {u = u} {k = g} {r = r} e k t) =
-    let f = start-lacks return e in
-    subst (λ (y : Bytes). Content a y (elem tag g r))
-    (element-parts w n (line_ends s) (line_ends u) ∙ sym (parts-lines s u (opens-lacks return f.0) (closes-lacks return f.1) (closes-head n u)) ∙ ap line_ends (sym (element-parts w n s u)))
+content-lines {a} (element {n = n} {s = s} {u = u} {k = g} {r = r} e k t) =
+    let f = name-lacks name-return n e in
+    let x = element-parts n s u in
+    subst (λ (y : Bytes). Content a y (elem n g r))
+    (element-parts n (line_ends s) (line_ends u) ∙ sym (parts-lines s u (opens-firm n f) (closes-firm n f) (closes-head n u)) ∙ ap line_ends (sym x))
     (element e (content-lines k) (content-lines t))
-content-lines {a} (lone {t = tag} {u = u} {r = r} e t) =
-    subst (λ (y : Bytes). Content a y (elem tag end r)) (sym (no-return-lines (lones-lacks return (start-lacks return e).0) u)) (lone e (content-lines t))
+content-lines {a} (lone {n = n} {u = u} {r = r} e t) =
+    subst (λ (y : Bytes). Content a y (elem n end r)) (sym (no-return-lines (lones-firm n (name-lacks name-return n e)) u)) (lone e (content-lines t))
 content-lines {a} (times {t = n} {s = s} {u = u} {k = g} {r = r} h e k t) =
     subst (λ (y : Bytes). Content a y (stamp n g r))
-    (times-parts n (line_ends s) (line_ends u) ∙ sym (parts-lines s u (timed-lacks return n e) (last-lacks return) (last-head u)) ∙ ap line_ends (sym (times-parts n s u)))
+    (times-parts n (line_ends s) (line_ends u) ∙ sym (parts-lines s u (timed-firm n (by_bytes is_times times-return n e)) last-firm (last-head u)) ∙ ap line_ends (sym (times-parts n s u)))
     (times h e (content-lines k) (content-lines t))
 
 content-raw : {a : Bool} {x : Bytes} {f : Forest} → Content a x f → (s : Bytes) → line_ends s ≡ x → Content a s f
@@ -520,16 +473,16 @@ content-raw (run {s = x} {u = u} c i o n k) s e =
     rw g.is
     (run (chars-raw c g.left g.lines_left) (sym (empty-lines g.left) ∙ ap is_empty g.lines_left ∙ i)
     (sym (closes-lines g.left) ∙ ap (occurs (bytes "]]>")) g.lines_left ∙ o) n (content-raw k g.right g.lines-right))
-content-raw {a} (element {w = w} {n = n} {t = tag} {s = x} {u = u} {k = kids} {r = r} i k t) s e =
-    let m = start-lacks feed i in
-    let g = parted s x u (opens-lacks feed m.0) (closes-lacks feed m.1) (e ∙ element-parts w n x u) in
-    subst (λ (y : Bytes). Content a y (elem tag kids r)) (element-parts w n g.inner g.later ∙ sym g.is)
+content-raw {a} (element {n = n} {s = x} {u = u} {k = kids} {r = r} i k t) s e =
+    let m = name-lacks name-feed n i in
+    let g = parted s x u (opens-smooth n m) (closes-smooth n m) (e ∙ element-parts n x u) in
+    subst (λ (y : Bytes). Content a y (elem n kids r)) (element-parts n g.inner g.later ∙ sym g.is)
     (element i (content-raw k g.inner g.lines-inner) (content-raw t g.later g.lines-later))
-content-raw {a} (lone {t = tag} {u = u} {r = r} i t) s e =
-    let g = after (lones-lacks feed (start-lacks feed i).0) s u e in
-    subst (λ (y : Bytes). Content a y (elem tag end r)) (sym g.is) (lone i (content-raw t g.later g.lines))
+content-raw {a} (lone {n = n} {u = u} {r = r} i t) s e =
+    let g = after (lones-smooth n (name-lacks name-feed n i)) s u e in
+    subst (λ (y : Bytes). Content a y (elem n end r)) (sym g.is) (lone i (content-raw t g.later g.lines))
 content-raw {a} (times {t = n} {s = x} {u = u} {k = kids} {r = r} h i k t) s e =
-    let g = parted s x u (timed-lacks feed n i) (last-lacks feed) (e ∙ times-parts n x u) in
+    let g = parted s x u (timed-smooth n (by_bytes is_times times-feed n i)) last-smooth (e ∙ times-parts n x u) in
     subst (λ (y : Bytes). Content a y (stamp n kids r)) (times-parts n g.inner g.later ∙ sym g.is)
     (times h i (content-raw k g.inner g.lines-inner) (content-raw t g.later g.lines-later))
 
@@ -539,6 +492,10 @@ root-text end r = absurd r
 root-text (elem n k f) r = tt
 root-text (text b f) r = absurd r
 root-text (stamp t k f) r = tt
+
+firm-whole : {p : Bytes} → NoReturn p → line_ends p ≡ p
+unfolding line_ends
+firm-whole {p} f = ap line_ends (sym (append-nil p)) ∙ no-return-lines f [] ∙ append-nil p
 
 whole_parts : (p s q v : Bytes) → parts p s q [] ++ v ≡ parts p s q v
 whole_parts p s q v = simp (append-nil, append_assoc)
@@ -556,24 +513,22 @@ root-lines : {a : Bool} {s : Bytes} {f : Forest} (v : Bytes) → Content a s f �
 unfolding line_ends
 root-lines v nothing r = absurd r
 root-lines v (run c e o n k) r = absurd r
-root-lines v (element {w = w} {n = n} {s = s} {u = u} e k t) r =
-    let f = start-lacks return e in
-    let o = opens-lacks return f.0 in
-    let c = closes-lacks return f.1 in
+root-lines v (element {n = n} {s = s} {u = u} e k t) r =
+    let f = name-lacks name-return n e in
     let z : u ≡ [] = content-end t r in
-    let p = parts-lines s v o c (closes-head n v) in
-    let q = parts-lines s [] o c (closes-head n []) in
-    rw z (ap line_ends (ap (◌++ v) (element-parts w n s []) ∙ whole_parts (opens w) s (closes n) v) ∙ p
-    ∙ sym (ap (◌++ line_ends v) (ap line_ends (element-parts w n s []) ∙ q) ∙ whole_parts (opens w) (line_ends s) (closes n) (line_ends v)))
-root-lines v (lone {w = w} {u = u} e t) r =
-    let f = lones-lacks return (start-lacks return e).0 in
+    let p = parts-lines s v (opens-firm n f) (closes-firm n f) (closes-head n v) in
+    let q = parts-lines s [] (opens-firm n f) (closes-firm n f) (closes-head n []) in
+    rw z (ap line_ends (ap (◌++ v) (element-parts n s []) ∙ whole_parts (opens n) s (closes n) v) ∙ p
+    ∙ sym (ap (◌++ line_ends v) (ap line_ends (element-parts n s []) ∙ q) ∙ whole_parts (opens n) (line_ends s) (closes n) (line_ends v)))
+root-lines v (lone {n = n} {u = u} e t) r =
+    let f = lones-firm n (name-lacks name-return n e) in
     let z : u ≡ [] = content-end t r in
-    rw (z, append-nil (lones w)) (no-return-lines f v ∙ ap (◌++ line_ends v) (sym (no-return-self (lones w) (lacks-count f))))
+    rw (z, append-nil (lones n)) (no-return-lines f v ∙ ap (◌++ line_ends v) (sym (firm-whole f)))
 root-lines v (times {t = n} {s = s} {u = u} h e k t) r =
-    let f = timed-lacks return n e in
+    let f = timed-firm n (by_bytes is_times times-return n e) in
     let z : u ≡ [] = content-end t r in
-    let p = parts-lines s v f (last-lacks return) (last-head v) in
-    let q = parts-lines s [] f (last-lacks return) (last-head []) in
+    let p = parts-lines s v f last-firm (last-head v) in
+    let q = parts-lines s [] f last-firm (last-head []) in
     rw z (ap line_ends (ap (◌++ v) (times-parts n s []) ∙ whole_parts (timed n) s (bytes "</T>") v) ∙ p
     ∙ sym (ap (◌++ line_ends v) (ap line_ends (times-parts n s []) ∙ q) ∙ whole_parts (timed n) (line_ends s) (bytes "</T>") (line_ends v)))
 

@@ -3,24 +3,19 @@ use Rattle.std.specs.Prelude.{◌≡◌, Bool, true, false, [], ◌∷◌, ◌++
 use Rattle.std.proofs.Math.Path.{refl}
 use Rattle.std.proofs.Common.{ap, sym, ◌∙◌, subst, append_assoc, arith, eqb-true, take-suc, take-add, length-take-le}
 use Prim.Native.Char.{code}
-use Prim.Native.Nat.{ℕ, suc, ◌+◌, ◌<◌, ◌≤◌}
+use Prim.Native.Nat.{ℕ, suc, ◌+◌, ◌<◌}
 use Rattle.std.proofs.lemmas.Bool.{eqb-false}
-use Rattle.xml.specs.Bytes.{Bytes, bytes, is_start, is_name_byte, bytes_compute}
-use Rattle.xml.specs.Grammar.{StartTag, bare}
+use Rattle.xml.specs.Bytes.{Bytes, bytes, is_start, bytes_compute}
 use Rattle.xml.specs.Forest.{Forest, end, elem, text, stamp, join}
-use Rattle.xml.specs.Read.{common, times_len, tag_len, Tag, timed, tag_name, tag_node, Stack, outer, inside, wrong, start_of, start_tag, end_tag, step, read_compute}
-use Rattle.xml.specs.declared.Run.{Run}
-use Rattle.xml.specs.declared.Run.TheVariants.{Upto, Stop}
-use Rattle.xml.specs.ScanLaws.{times_len-fits, begins}
-use Rattle.xml.specs.TextLaws.{place}
-use Rattle.xml.specs.TagLaws.{start-some, start_first, tag_len-all, tag_len-range, tag_len-sound}
-use Rattle.xml.specs.AttrsLive.{tag_len-live}
-use Rattle.xml.specs.StepLaws.{in-range, StartCase, none, opens, lone, slash, times, bad, start-case, tag-upto, tag-stop, tag-none, tag_open, tag-bad, tag-times, tag-slash, tag-empty, times-bad, times-good, times-end-bad, times-end-good, end-good, end-bad, end_short}
+use Rattle.xml.specs.Read.{common, name_len, times_len, Tag, timed, tag_name, tag_node, Stack, outer, inside, wrong, start_tag, end_tag, step, read_compute}
+use Rattle.xml.specs.ScanLaws.{name_len-cons, name_len-off, name_len-fits, times_len-fits, begins}
+use Rattle.xml.specs.StepLaws.{in-range, StartCase, none, opens, lone, slash, times, bad, start-case, tag-none, tag_open, tag-bad, tag-times, tag-slash, tag-empty, times-bad, times-good, times-end-bad, times-end-good, end-good, end-bad, end_short}
 use Rattle.xml.specs.Goes.{goes_end}
 use Rattle.xml.specs.TimedTags.{is-timed, times_tag, times_close}
+use Rattle.xml.specs.Truth.{clash}
 use Rattle.xml.specs.LiveText.{completed}
 use Rattle.xml.specs.StepIn.{move-apart, wrong-is}
-use Rattle.xml.specs.Closing.{close_all, join-some, Closes, some-closes, inner-closes, empty-closes, times_cut, times-closes}
+use Rattle.xml.specs.Closing.{close_all, join-some, Closes, some-closes, inner-closes, name-slash, empty-closes, times_cut, times-closes}
 
 -- ---- the completion of each state, and of each token that went wrong
 
@@ -30,8 +25,7 @@ pub record Alive (a : Bool) (st : Stack) (f : Forest) (s : Bytes) : Type 0 where
 
 pub state-live : (a : Bool) (st : Stack) (f : Forest) → Alive a st f []
 unfolding read_compute
-state-live true outer end = record { add = bytes "<a/>"; closes = λ at. (elem (bytes "a") end end, refl) }
-state-live false outer end = record { add = bytes "<a/>"; closes = λ at. (elem (bytes "a") end end, refl) }
+state-live a outer end = record { add = bytes "<a/>"; closes = λ at. (elem (bytes "a") end end, refl) }
 state-live a outer (elem n k r) = record { add = []; closes = λ at. (elem n k r, refl) }
 state-live a outer (text b r) = record { add = []; closes = λ at. (text b r, refl) }
 state-live a outer (stamp t k r) = record { add = []; closes = λ at. (stamp t k r, refl) }
@@ -41,13 +35,20 @@ slash-start : is_start (code "/") ≡ false
 unfolding bytes_compute
 slash-start = refl
 
-slash-name : is_name_byte (code "/") ≡ false
-unfolding bytes_compute
-slash-name = refl
+first-no-slash : (s x : Bytes) → (name_len s ≡ 0 → ⊥) → get_or (take (name_len s) s ++ x) 0 0 ≡ code "/" → ⊥
+unfolding name_len
+first-no-slash [] x h e = h refl
+first-no-slash (b ∷ s) x h e = at (is_start b) refl
+  where
+    at : (t : Bool) → is_start b ≡ t → ⊥
+    at true q =
+        let z : b ≡ code "/" = subst (λ (n : ℕ). get_or (take n (b ∷ s) ++ x) 0 0 ≡ code "/") (name_len-cons b s q) e in
+        clash (sym q ∙ ap is_start z ∙ slash-start)
+    at false q = h (name_len-off b s q)
 
-one_name : (a : Bool) → StartTag a (bytes "a") (bytes "a") (bytes "a")
-unfolding bytes_compute
-one_name a = bare refl
+one_name : (c : Bytes) → name_len (code "a" ∷ code "/" ∷ c) ≡ 1
+unfolding read_compute
+one_name c = refl
 
 -- ---- an archive's `<T t="..">`
 
@@ -116,73 +117,52 @@ times-live st f s j starts e = at (eqb c 4) refl
 
 -- ---- a start tag
 
-module _ (a : Bool) (st : Stack) (f : Forest) (s : Bytes) (j : ℕ)
-    (starts : (u : Bytes) → (get_or u 0 0 ≡ code "/" → ⊥) → step a st f (code "<" ∷ u) ≡ start_tag a st f u) where
-  -- what stands in a tag, `/>` and what closes the rest
-  full : {w n t : Bytes} → StartTag a w n t → Closes a st f (code "<" ∷ (w ++ (code "/" ∷ code ">" ∷ close_all st)))
-  full {w} tag =
-      let c = code "/" ∷ code ">" ∷ close_all st in
-      empty-closes a st f w (start-some tag) (tag_len-all (code "/") (code ">" ∷ close_all st) tag slash-name (λ x. eqb-false (code "/") (code " ") refl x))
-      (starts (w ++ c) (start_first c (code "/") tag slash-start))
+pub start-live : (a : Bool) (st : Stack) (f : Forest) (s : Bytes) (j : ℕ) →
+    ((u : Bytes) → (get_or u 0 0 ≡ code "/" → ⊥) → step a st f (code "<" ∷ u) ≡ start_tag a st f u) →
+    start_tag a st f s ≡ wrong j → Alive a st f (take j (code "<" ∷ s))
+start-live a st f s j starts e = at (start-case a s (name_len s))
+  where
+    c : Bytes
+    c = code "/" ∷ code ">" ∷ close_all st
 
-  -- its name and attributes stop at a wrong byte
-  stop-live : (k : ℕ) → tag_len a s ≡ Stop k → start_tag a st f s ≡ wrong j → Alive a st f (take j (code "<" ∷ s))
-  stop-live k l e =
-      let c = code "/" ∷ code ">" ∷ close_all st in
-      let i : 1 + k ≡ j = wrong-is (1 + k) j (sym (tag-stop a st f s k l) ∙ e) in
-      let i' : suc k ≡ j = omega arith in
-      let v = tag_len-live a s k l in
-      subst (λ (m : ℕ). Alive a st f (take m (code "<" ∷ s))) i'
-      (record { add = v.add ++ c; closes = subst (λ (x : Bytes). Closes a st f (code "<" ∷ x)) (append_assoc (take k s) v.add c) (full v.start) })
+    full : (name_len s ≡ 0 → ⊥) → Closes a st f (code "<" ∷ (take (name_len s) s ++ c))
+    full z =
+        let l = length-take-le (name_len s) s (name_len-fits s) in
+        empty-closes a st f (take (name_len s) s) (λ y. z (sym l ∙ y)) (name-slash s (code ">" ∷ close_all st) z ∙ sym l)
+        (starts (take (name_len s) s ++ c) (first-no-slash s c z))
 
-  -- they are whole, and what follows is wrong
-  upto-live : (n : ℕ) → tag_len a s ≡ Upto n → start_tag a st f s ≡ wrong j → Alive a st f (take j (code "<" ∷ s))
-  upto-live n l e = at (start-case a s n)
-    where
-      c : Bytes
-      c = code "/" ∷ code ">" ∷ close_all st
-
-      whole-tag : (n ≡ 0 → ⊥) → Closes a st f (code "<" ∷ (take n s ++ c))
-      whole-tag z = full (tag_len-sound a s n l z).start
-
-      e' : start_of a st f s n ≡ wrong j
-      e' = sym (tag-upto a st f s n l) ∙ e
-
-      fits : n ≤ length s
-      fits = subst (λ (r : Run). place r ≤ length s) l (tag_len-range a s).1
-
-      at : StartCase a s n → Alive a st f (take j (code "<" ∷ s))
-      at (none z) =
-          let i : 1 ≡ j = wrong-is 1 j (sym (tag-none a st f s n z) ∙ e') in
-          subst (λ (m : ℕ). Alive a st f (take m (code "<" ∷ s))) i (record { add = bytes "a" ++ c; closes = full (one_name a) })
-      at (opens z b) = move-apart _ _ _ j (sym (tag_open a st f s n z b) ∙ e')
-      at (lone z b d g) = move-apart _ _ _ j (sym (tag-empty a st f s n z b d g) ∙ e')
-      at (slash z b d g) =
-          let i : 2 + n ≡ j = wrong-is (2 + n) j (sym (tag-slash a st f s n z b d g) ∙ e') in
-          let i' : suc (suc n) ≡ j = omega arith in
-          let k : take (suc n) s ≡ take n s ++ (code "/" ∷ []) = take-suc s n 0 (in-range s n 46 d) ∙ ap (λ (x : ℕ). take n s ++ (x ∷ [])) d in
-          let w : take (suc n) s ++ (code ">" ∷ close_all st) ≡ take n s ++ c =
-          ap (λ (x : Bytes). x ++ (code ">" ∷ close_all st)) k ∙ append_assoc (take n s) (code "/" ∷ []) (code ">" ∷ close_all st)
-          in
-          subst (λ (m : ℕ). Alive a st f (take m (code "<" ∷ s))) i'
-          (record { add = code ">" ∷ close_all st; closes = subst (λ (x : Bytes). Closes a st f (code "<" ∷ x)) (sym w) (whole-tag z) })
-      at (times z b d t) =
-          let is = is-timed a s n fits t in
-          subst (λ (y : Bytes). Alive a st f (take j (code "<" ∷ y))) (sym is.is)
-          (subst (λ (x : Bool). Alive x st f (take j (code "<" ∷ code "T" ∷ drop 1 s))) (sym is.archive)
-          (times-live st f (drop 1 s) j (λ u h. subst (λ (x : Bool). step x st f (code "<" ∷ u) ≡ start_tag x st f u) is.archive (starts u h))
-          (sym (tag-times a st f s n z b d t) ∙ e')))
-      at (bad z b d t) =
-          let i : 1 + n ≡ j = wrong-is (1 + n) j (sym (tag-bad a st f s n z b d t) ∙ e') in
-          let i' : suc n ≡ j = omega arith in
-          subst (λ (m : ℕ). Alive a st f (take m (code "<" ∷ s))) i' (record { add = c; closes = whole-tag z })
-
-  pub start-live : start_tag a st f s ≡ wrong j → Alive a st f (take j (code "<" ∷ s))
-  start-live e = at (tag_len a s) refl
-    where
-      at : (r : Run) → tag_len a s ≡ r → Alive a st f (take j (code "<" ∷ s))
-      at (Upto n) l = upto-live n l e
-      at (Stop k) l = stop-live k l e
+    at : StartCase a s (name_len s) → Alive a st f (take j (code "<" ∷ s))
+    at (none z) =
+        let i : 1 ≡ j = wrong-is 1 j (sym (tag-none a st f s (name_len s) z) ∙ e) in
+        subst (λ (m : ℕ). Alive a st f (take m (code "<" ∷ s))) i
+        (record {
+          add = code "a" ∷ c;
+          closes = empty-closes a st f (code "a" ∷ []) (λ y. eqb-false 1 0 refl y) (one_name (code ">" ∷ close_all st))
+              (starts (code "a" ∷ c) (λ y. eqb-false (code "a") (code "/") refl y));
+        })
+    at (opens z b) = move-apart _ _ _ j (sym (tag_open a st f s (name_len s) z b) ∙ e)
+    at (lone z b d g) = move-apart _ _ _ j (sym (tag-empty a st f s (name_len s) z b d g) ∙ e)
+    at (slash z b d g) =
+        let i : 2 + name_len s ≡ j = wrong-is (2 + name_len s) j (sym (tag-slash a st f s (name_len s) z b d g) ∙ e) in
+        let i' : suc (suc (name_len s)) ≡ j = omega arith in
+        let k : take (suc (name_len s)) s ≡ take (name_len s) s ++ (code "/" ∷ []) =
+        take-suc s (name_len s) 0 (in-range s (name_len s) 46 d) ∙ ap (λ (x : ℕ). take (name_len s) s ++ (x ∷ [])) d
+        in
+        let w : take (suc (name_len s)) s ++ (code ">" ∷ close_all st) ≡ take (name_len s) s ++ c =
+        ap (λ (x : Bytes). x ++ (code ">" ∷ close_all st)) k ∙ append_assoc (take (name_len s) s) (code "/" ∷ []) (code ">" ∷ close_all st)
+        in
+        subst (λ (m : ℕ). Alive a st f (take m (code "<" ∷ s))) i'
+        (record { add = code ">" ∷ close_all st; closes = subst (λ (x : Bytes). Closes a st f (code "<" ∷ x)) (sym w) (full z) })
+    at (times z b d t) =
+        let is = is-timed a s (name_len s) (name_len-fits s) t in
+        subst (λ (y : Bytes). Alive a st f (take j (code "<" ∷ y))) (sym is.is)
+        (subst (λ (x : Bool). Alive x st f (take j (code "<" ∷ code "T" ∷ drop 1 s))) (sym is.archive)
+        (times-live st f (drop 1 s) j (λ u h. subst (λ (x : Bool). step x st f (code "<" ∷ u) ≡ start_tag x st f u) is.archive (starts u h))
+        (sym (tag-times a st f s (name_len s) z b d t) ∙ e)))
+    at (bad z b d t) =
+        let i : 1 + name_len s ≡ j = wrong-is (1 + name_len s) j (sym (tag-bad a st f s (name_len s) z b d t) ∙ e) in
+        let i' : suc (name_len s) ≡ j = omega arith in
+        subst (λ (m : ℕ). Alive a st f (take m (code "<" ∷ s))) i' (record { add = c; closes = full z })
 
 -- ---- an end tag
 

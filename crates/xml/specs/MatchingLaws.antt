@@ -1,9 +1,10 @@
 -- Laws of `match_at`: pieces that are compared one after the other are one piece; runs of text, nodes and whole texts.
-use Rattle.std.specs.Prelude.{ℕ, ◌+◌, ◌-◌, ◌%◌, ◌<◌, ◌≤◌, ◌≡◌, refl, true, false, List, [], ◌++◌, eqb, length, drop}
-use Rattle.std.proofs.Common.{ap, ◌∙◌, append-nil, append_assoc, add-zero, arith, eq-eqb, ne_eqb, eqb-true, length-append, length-drop, drop_of_length-le, drop-drop}
+use Rattle.std.specs.Prelude.{ℕ, ◌+◌, ◌-◌, ◌%◌, ◌<◌, ◌≤◌, ◌≡◌, refl, true, false, List, [], ◌++◌, eqb, length, take, drop}
+use Rattle.std.proofs.Common.{ap, ◌∙◌, append-nil, append_assoc, add-zero, arith, eq-eqb, ne_eqb, eqb-true, length-append, length-drop, take-append-drop, drop_of_length-le, drop-drop, length-take-le}
 use Rattle.std.proofs.Math.Path.{sym}
 use Rattle.std.proofs.lemmas.Bool.{eqb-false}
 use Rattle.std.proofs.Math.Seq.{slice, drop-append_seam, length-slice}
+use Rattle.std.proofs.lemmas.List.{drop-append-le}
 use Rattle.xml.specs.Bytes.{Bytes, same}
 use Rattle.xml.specs.BytesLaws.{same-is, same_self}
 use Rattle.xml.specs.Forest.{Forest, write}
@@ -13,7 +14,6 @@ use Rattle.xml.specs.Signs.{spelt}
 use Rattle.xml.specs.Tape.{head_at, next_at, Tape}
 use Rattle.xml.specs.TapeLaws.{bytes_at, tape-le, tape-none, split, text-node}
 use Rattle.xml.specs.Truth.{by-test, clash}
-use Rattle.xml.specs.WriteLaws.{drop-split}
 use Rattle.xml.specs.Matching.{match_at, Matches}
 
 module _ (s : Bytes) (at : ℕ) (w : Bytes) where
@@ -56,7 +56,8 @@ match_none s at = match-hit s at [] (stands-before s at [] (drop at s) refl) ∙
 -- a part stands at its own place
 pub match-here : (s : Bytes) (a e : ℕ) → a ≤ e → e ≤ length s → match_at s a (slice a e s) ≡ e
 match-here s a e h k =
-    match-hit s a (slice a e s) (stands-before s a (slice a e s) (drop e s) (drop-split a e s h k))
+    let n : a ≤ length (take e s) = rw (length-take-le e s k) h in
+    match-hit s a (slice a e s) (stands-before s a (slice a e s) (drop e s) (ap (drop a) (sym (take-append-drop e s)) ∙ drop-append-le a (take e s) (drop e s) n))
     ∙ (omega (arith, length-slice a e s k))
 
 -- ---- THE law: w at a place, and then v at the place after it, is w ++ v

@@ -10,7 +10,7 @@ use Rattle.xml.specs.Bytes.{Bytes, any, same}
 use Rattle.xml.specs.BytesLaws.{same-is, same_self}
 use Rattle.xml.specs.Tags.{less}
 use Rattle.xml.specs.NameOrder.{less-more, less_other, less-nil, less-self, less-trans, less-total}
-use Rattle.xml.specs.NameCells.{cell_of, name_in, InText, cell_at, name_at, NameCells, Parted, Shifted, Put, Below}
+use Rattle.xml.specs.NameCells.{cell_of, name_in, InText, cell_at, name_at, NameCells, Parted, Shifted, Below}
 use Rattle.xml.specs.SignLaws.{slice_first}
 use Rattle.xml.specs.Truth.{by-test, clash, not_so, or-first, or-second}
 
@@ -120,11 +120,17 @@ shifted-more {cells} {new} {lo} {i} {hi} e h b s =
           (λ x. let z = eqb-false j lo x in get_or-set_other new i (j + 1) (get_or new lo 0) 0 (λ d. omega arith) ∙ s.moved j (omega arith) m);
     }
 
+-- one more cell stands at r of the k from `base` on
+record Put (cells : List ℕ) (base k r cell : ℕ) (new : List ℕ) : Type 0 where
+  long : length new ≡ length cells
+  low : (i : ℕ) → i < r → cell_at new base i ≡ cell_at cells base i
+  here : cell_at new base r ≡ cell
+  high : (i : ℕ) → r ≤ i → i < k → cell_at new base (i + 1) ≡ cell_at cells base i
+
 module _ {cells mid : List ℕ} {base k r : ℕ} (cell : ℕ) (h : r ≤ k) (b : base + k < length cells) (s : Shifted cells (base + r) (base + k) mid) where
-  pub put : Put cells base k r cell (set mid (base + r) cell)
+  put : Put cells base k r cell (set mid (base + r) cell)
   put =
       record {
-        within = h;
         long = length-set mid (base + r) cell ∙ s.long;
         low = λ i l. get_or-set_other mid (base + r) (base + i) cell 0 (λ d. omega arith) ∙ s.kept (base + i) (omega arith);
         here = get_or-set_same mid (base + r) cell 0 (omega (arith, s.long));
@@ -152,23 +158,21 @@ side r j =
     by-test (ltb j r) (λ x. low (ltb-true j r x))
     (λ x. by-test (eqb j r) (λ y. here (eqb-true j r y)) (λ y. high (j - 1) (omega (arith, ltb-false j r x, eqb-false j r y)) (omega (arith, ltb-false j r x, eqb-false j r y))))
 
-module _ {cells new : List ℕ} {base k r cell : ℕ} (p : Put cells base k r cell new) where
+module _ {src cells new : List ℕ} {base k r cell : ℕ} {used : List Bytes} (n : NameCells src cells base k used) (q : Parted src cells base k (name_in src cell) r r) (p : Put cells base k r cell new) where
   cell-high : {i j : ℕ} → j ≡ i + 1 → r ≤ i → j < k + 1 → cell_at new base j ≡ cell_at cells base i
   cell-high {i} e g l = ap (cell_at new base) e ∙ p.high i g (omega arith)
 
   cell-here : {j : ℕ} → j ≡ r → cell_at new base j ≡ cell
   cell-here e = ap (cell_at new base) e ∙ p.here
 
-  -- what holds of the cells, and of the one that is put among them, holds of all
-  pub put_all : (P : ℕ → Type 0) → P cell → ((i : ℕ) → i < k → P (cell_at cells base i)) → (j : ℕ) → j < k + 1 → P (cell_at new base j)
-  put_all P t n j l = at (side r j)
+  put-in-text : InText src cell → (j : ℕ) → j < k + 1 → InText src (cell_at new base j)
+  put-in-text t j l = at (side r j)
     where
-      at : Side r j → P (cell_at new base j)
-      at (low h) = subst P (sym (p.low j h)) (n j (omega (arith, p.within)))
-      at (here e) = subst P (sym (cell-here e)) t
-      at (high i e g) = subst P (sym (cell-high e g l)) (n i (omega arith))
+      at : Side r j → InText src (cell_at new base j)
+      at (low h) = subst (InText src) (sym (p.low j h)) (n.in-text j (omega (arith, q.high)))
+      at (here e) = subst (InText src) (sym (cell-here e)) t
+      at (high i e g) = subst (InText src) (sym (cell-high e g l)) (n.in-text i (omega arith))
 
-module _ {src cells new : List ℕ} {base k r cell : ℕ} {used : List Bytes} (n : NameCells src cells base k used) (q : Parted src cells base k (name_in src cell) r r) (p : Put cells base k r cell new) where
   put-ascends : any (same (name_in src cell)) used ≡ false → (i j : ℕ) → i < j → j < k + 1 → less (name_at src new base i) (name_at src new base j) ≡ true
   put-ascends d i j l m = at (side r i) (side r j)
     where
@@ -177,10 +181,10 @@ module _ {src cells new : List ℕ} {base k r cell : ℕ} {used : List Bytes} (n
 
       at : Side r i → Side r j → less (name_at src new base i) (name_at src new base j) ≡ true
       at (low h) (low g) = by _ _ (p.low i h) (p.low j g) (n.ascends i j l (omega (arith, q.high)))
-      at (low h) (here f) = by _ _ (p.low i h) (cell-here p f) (q.before i h)
-      at (low h) (high v f g) = by _ _ (p.low i h) (cell-high p f g m) (n.ascends i v (omega arith) (omega arith))
-      at (here e) (high v f g) = by _ _ (cell-here p e) (cell-high p f g m) (later n q d v g (omega arith))
-      at (high u e h) (high v f g) = by _ _ (cell-high p e h (omega arith)) (cell-high p f g m) (n.ascends u v (omega arith) (omega arith))
+      at (low h) (here f) = by _ _ (p.low i h) (cell-here f) (q.before i h)
+      at (low h) (high v f g) = by _ _ (p.low i h) (cell-high f g m) (n.ascends i v (omega arith) (omega arith))
+      at (here e) (high v f g) = by _ _ (cell-here e) (cell-high f g m) (later n q d v g (omega arith))
+      at (high u e h) (high v f g) = by _ _ (cell-high e h (omega arith)) (cell-high f g m) (n.ascends u v (omega arith) (omega arith))
       at (here e) (low g) = absurd (omega arith)
       at (here e) (here f) = absurd (omega arith)
       at (high u e h) (low g) = absurd (omega arith)
@@ -195,8 +199,8 @@ module _ {src cells new : List ℕ} {base k r cell : ℕ} {used : List Bytes} (n
 
       at : Side r j → any (same (name_at src new base j)) (name_in src cell ∷ used) ≡ true
       at (low h) = by _ (p.low j h) (or-second (same (name_at src cells base j) (name_in src cell)) (any (same (name_at src cells base j)) used) (n.is-used j (omega (arith, q.high))))
-      at (here e) = by _ (cell-here p e) (or-first (same (name_in src cell) (name_in src cell)) (any (same (name_in src cell)) used) (same_self (name_in src cell)))
-      at (high i e g) = by _ (cell-high p e g l) (or-second (same (name_at src cells base i) (name_in src cell)) (any (same (name_at src cells base i)) used) (n.is-used i (omega arith)))
+      at (here e) = by _ (cell-here e) (or-first (same (name_in src cell) (name_in src cell)) (any (same (name_in src cell)) used) (same_self (name_in src cell)))
+      at (high i e g) = by _ (cell-high e g l) (or-second (same (name_at src cells base i) (name_in src cell)) (any (same (name_at src cells base i)) used) (n.is-used i (omega arith)))
 
   put-held : (s : Bytes) → any (same s) (name_in src cell ∷ used) ≡ true → (j : ℕ) × (j < k + 1) × (name_at src new base j ≡ s)
   unfolding any
@@ -213,7 +217,7 @@ module _ {src cells new : List ℕ} {base k r cell : ℕ} {used : List Bytes} (n
   put-names d t b =
       record {
         room = omega (arith, p.long);
-        in-text = put_all p (InText src) t n.in-text;
+        in-text = put-in-text t;
         ascends = put-ascends d;
         is-used = put-used;
         held = put-held;

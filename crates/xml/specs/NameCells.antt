@@ -50,14 +50,6 @@ pub record Shifted (cells : List ℕ) (lo hi : ℕ) (new : List ℕ) : Type 0 wh
   pub kept : (i : ℕ) → i ≤ lo → get_or new i 0 ≡ get_or cells i 0
   pub moved : (i : ℕ) → lo ≤ i → i < hi → get_or new (i + 1) 0 ≡ get_or cells i 0
 
--- of the k cells from `base` on, those from the r-th on stand one further, and a cell stands in its place
-pub record Put (cells : List ℕ) (base k r cell : ℕ) (new : List ℕ) : Type 0 where
-  pub within : r ≤ k
-  pub long : length new ≡ length cells
-  pub low : (i : ℕ) → i < r → cell_at new base i ≡ cell_at cells base i
-  pub here : cell_at new base r ≡ cell
-  pub high : (i : ℕ) → r ≤ i → i < k → cell_at new base (i + 1) ≡ cell_at cells base i
-
 -- the cells below `base` are as they were
 pub record Below (before cells : List ℕ) (base : ℕ) : Type 0 where
   pub long : length cells ≡ length before

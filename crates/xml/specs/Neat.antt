@@ -1,18 +1,11 @@
 -- A text that can be read is spelled as its forest is written where nothing in it is spelled otherwise: no white space around the root, no
 -- `<a/>`, no bare `>` in text, no `&quot;` or `&apos;`, no CR. Counts tell it: an `<a/>` has one `<` in place of two, a bare `>` is one `>` more
 -- (NeatSpelled.antt, `neat-spelled` and `spelled-neat`).
-use Rattle.std.specs.Prelude.{ℕ, zero, suc, ◌+◌, ◌*◌, ◌-◌, ◌%◌, ◌≡◌, Bool, true, false, ◌&&◌, ◌||◌, List, [], ◌∷◌, eqb, length, get_or}
+use Rattle.std.specs.Prelude.{ℕ, zero, suc, ◌+◌, ◌*◌, ◌-◌, ◌%◌, ◌≡◌, Bool, true, false, not, ◌&&◌, ◌||◌, List, [], ◌∷◌, eqb, length, get_or}
 use Prim.Native.Char.{code}
-use Rattle.xml.specs.Bytes.{Bytes, is_white, is_name}
+use Rattle.xml.specs.Bytes.{Bytes, is_white}
 use Rattle.xml.specs.Forest.{Forest, end, elem, text, stamp}
 use Rattle.xml.specs.Tape.{head_at}
-
--- every tag is a name alone. This test is for forests with no attributes: in a value `>` and `&quot;` are written, and `&gt;` is not
-abbrev pub Bare : Forest → Type 0
-Bare end = Unit {0}
-Bare (text b r) = Bare r
-Bare (elem n k r) = (is_name n ≡ true) × Bare k × Bare r
-Bare (stamp t k r) = Bare k × Bare r
 
 abbrev pub one : Bool → ℕ
 one true = 1
@@ -39,17 +32,10 @@ tags (text b r) = tags r
 tags (elem n k r) = 1 + tags k + tags r
 tags (stamp t k r) = 1 + tags k + tags r
 
--- how many `T`s a forest has
-unfoldable pub stamps : Forest → ℕ
-stamps end = 0
-stamps (text b r) = stamps r
-stamps (elem n k r) = stamps k + stamps r
-stamps (stamp t k r) = 1 + stamps k + stamps r
-
--- how many of the nodes below p are of a kind
-unfoldable pub kind_below : ℕ → List ℕ → ℕ → ℕ
-kind_below kind cells zero = 0
-kind_below kind cells (suc p) = kind_below kind cells p + one (eqb (head_at cells p % 4) kind)
+-- how many of the nodes below p are no runs of text
+unfoldable pub tags_below : List ℕ → ℕ → ℕ
+tags_below cells zero = 0
+tags_below cells (suc p) = tags_below cells p + one (not (eqb (head_at cells p % 4) 0))
 
 abbrev pub last : Bytes → ℕ
 last s = get_or s (length s - 1) 0

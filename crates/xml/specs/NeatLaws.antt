@@ -12,7 +12,7 @@ use Rattle.xml.specs.Bytes.{Bytes}
 use Rattle.xml.specs.Forest.{Forest}
 use Rattle.xml.specs.Tape.{head_at, Tape, at-end, at-text, at-elem, at-stamp}
 use Rattle.xml.specs.Truth.{or_left, or_right}
-use Rattle.xml.specs.Neat.{one, count, is_other, others, tags, stamps, kind_below}
+use Rattle.xml.specs.Neat.{one, count, is_other, others, tags, tags_below}
 
 -- ---- in two parts
 pub one-most : (x : Bool) → one x ≤ 1
@@ -89,34 +89,22 @@ module _ (src : Bytes) (i : ℕ) where
   others-over h = rw (drop_of_length-le src)
 
 -- ---- the nodes of a tape
-module _ (cells : List ℕ) (p kind : ℕ) where
-  pub below_more : head_at cells p % 4 ≡ kind → kind_below kind cells (p + 1) ≡ kind_below kind cells p + 1
-  unfolding kind_below
-  below_more e = rw (add-one, eq-eqb (head_at cells p % 4) kind e)
+module _ (cells : List ℕ) (p : ℕ) where
+  pub below-text : head_at cells p % 4 ≡ 0 → tags_below cells (p + 1) ≡ tags_below cells p
+  unfolding tags_below
+  below-text e = rw (add-one, e) (omega arith)
 
-  pub below-same : (head_at cells p % 4 ≡ kind → ⊥) → kind_below kind cells (p + 1) ≡ kind_below kind cells p
-  unfolding kind_below
-  below-same n = rw (add-one, ne_eqb (head_at cells p % 4) kind n) (omega arith)
+  pub below-tag : (head_at cells p % 4 ≡ 0 → ⊥) → tags_below cells (p + 1) ≡ tags_below cells p + 1
+  unfolding tags_below
+  below-tag n = rw (add-one, ne_eqb (head_at cells p % 4) 0 n)
 
-tape-stamps : {src cells : List ℕ} {p q : ℕ} {f : Forest} → Tape src cells p q f → kind_below 2 cells q ≡ kind_below 2 cells p + stamps f
-unfolding stamps
-tape-stamps {cells = cells} (at-end e) = omega (arith, ap (kind_below 2 cells) e)
-tape-stamps {cells = cells} {p = p} (at-text n u e t) = omega (arith, below-same cells p 2 (λ z. omega (arith, n.kind-is)), tape-stamps t)
-tape-stamps {cells = cells} {p = p} (at-elem n i t) = omega (arith, below-same cells p 2 (λ z. omega (arith, n.node.kind-is)), tape-stamps i, tape-stamps t)
-tape-stamps {cells = cells} {p = p} (at-stamp n i t) = omega (arith, below_more cells p 2 n.kind-is, tape-stamps i, tape-stamps t)
+tape-tags : {src cells : List ℕ} {p q : ℕ} {f : Forest} → Tape src cells p q f → tags_below cells q ≡ tags_below cells p + tags f
+unfolding tags
+tape-tags {cells = cells} (at-end e) = omega (arith, ap (tags_below cells) e)
+tape-tags {cells = cells} {p = p} (at-text n u e t) = omega (arith, below-text cells p n.kind-is, tape-tags t)
+tape-tags {cells = cells} {p = p} (at-elem n i t) = omega (arith, below-tag cells p (λ z. omega (arith, n.kind-is)), tape-tags i, tape-tags t)
+tape-tags {cells = cells} {p = p} (at-stamp n i t) = omega (arith, below-tag cells p (λ z. omega (arith, n.kind-is)), tape-tags i, tape-tags t)
 
-tape-tags : {src cells : List ℕ} {p q : ℕ} {f : Forest} → Tape src cells p q f → stamps f + kind_below 1 cells q ≡ kind_below 1 cells p + tags f
-unfolding tags stamps
-tape-tags {cells = cells} (at-end e) = omega (arith, ap (kind_below 1 cells) e)
-tape-tags {cells = cells} {p = p} (at-text n u e t) = omega (arith, below-same cells p 1 (λ z. omega (arith, n.kind-is)), tape-tags t)
-tape-tags {cells = cells} {p = p} (at-elem n i t) = omega (arith, below_more cells p 1 n.node.kind-is, tape-tags i, tape-tags t)
-tape-tags {cells = cells} {p = p} (at-stamp n i t) = omega (arith, below-same cells p 1 (λ z. omega (arith, n.kind-is)), tape-tags i, tape-tags t)
-
-module _ {src cells : List ℕ} {q : ℕ} {f : Forest} (t : Tape src cells 0 q f) where
-  pub stamps-are : {r : ℕ} → r ≡ kind_below 2 cells q → r ≡ stamps f
-  unfolding kind_below
-  stamps-are e = omega (arith, tape-stamps t)
-
-  pub tags-are : {r n : ℕ} → r ≡ kind_below 2 cells q → n ≡ kind_below 1 cells q → r + n ≡ tags f
-  unfolding kind_below
-  tags-are e d = omega (arith, stamps-are e, tape-tags t)
+pub tags-are : {src cells : List ℕ} {q r : ℕ} {f : Forest} → Tape src cells 0 q f → r ≡ tags_below cells q → r ≡ tags f
+unfolding tags_below
+tags-are t e = omega (arith, tape-tags t)

@@ -10,8 +10,7 @@ use Rattle.xml.specs.Read.{whole, read}
 use Rattle.xml.specs.RoundTrip.{read-tidy}
 use Rattle.xml.specs.Sound.{read-sound}
 use Rattle.xml.specs.Truth.{by-test, clash, not_so, and_left, and_right}
-use Rattle.xml.specs.Tags.{name_of}
-use Rattle.xml.specs.Neat.{Bare, count, others, tags, last, Neat}
+use Rattle.xml.specs.Neat.{count, others, tags, last, Neat}
 use Rattle.xml.specs.NeatWritten.{write-signs, content-told}
 
 -- ---- the first and the last byte
@@ -46,7 +45,7 @@ write-last : (f : Forest) → Root f → is_white (last (write f)) ≡ false
 unfolding write bytes
 write-last end r = absurd r
 write-last (elem n k f) r =
-    let x : Bytes = bytes "<" ++ n ++ bytes ">" ++ write k ++ bytes "</" ++ name_of n in
+    let x : Bytes = bytes "<" ++ n ++ bytes ">" ++ write k ++ bytes "</" ++ n in
     let e : write (elem n k f) ≡ x ++ bytes ">" = ap (λ (g : Forest). write (elem n k g)) r ∙ append-nil (x ++ bytes ">") in
     ap (λ (s : Bytes). is_white (last s)) e ∙ ap is_white (last-after x (code ">") []) ∙ gt-black
 write-last (text b f) r = absurd r
@@ -63,10 +62,10 @@ write-some (text b f) r e = absurd r
 write-some (stamp t k f) r e = omega arith
 
 -- what is written is neat
-write-neat : (a : Bool) (f : Forest) → Tidy a f → Bare f → Root f → Neat (tags f) (write f)
+write-neat : (a : Bool) (f : Forest) → Tidy a f → Root f → Neat (tags f) (write f)
 unfolding others
-write-neat a f t b r =
-    let x = write-signs a f t b in
+write-neat a f t r =
+    let x = write-signs a f t in
     record {
       some = write-some f r;
       black-first = write-first f r;
@@ -85,8 +84,8 @@ no-after : (s a : Bytes) → all is_white a ≡ true → is_white (last (s ++ a)
 no-after s [] w e = refl
 no-after s (x ∷ a) w e = clash (sym (ap is_white (last-after s x a) ∙ white-at (x ∷ a) (length (x ∷ a) - 1) w (omega arith)) ∙ e)
 
-neat-is : (a : Bool) (s : Bytes) (f : Forest) → Spells a s f → Tidy a f → Bare f → Neat (tags f) s → s ≡ write f
-neat-is a s f p t m n =
+neat-is : (a : Bool) (s : Bytes) (f : Forest) → Spells a s f → Tidy a f → Neat (tags f) s → s ≡ write f
+neat-is a s f p t n =
     let b : Bytes = p.before in
     let i : Bytes = p.inner in
     let z : Bytes = p.after in
@@ -94,17 +93,17 @@ neat-is a s f p t m n =
     let e : s ≡ b ++ i = p.text-is ∙ ap (λ (x : Bytes). b ++ i ++ x) z₀ ∙ append-nil (b ++ i) in
     let b₀ : b ≡ [] = no-before b i p.white-before (ap (λ (x : Bytes). is_white (get_or x 0 0)) (sym e) ∙ n.black-first) in
     let d : s ≡ i = e ∙ ap (λ (x : Bytes). x ++ i) b₀ in
-    let x = write-signs a f t m in
-    d ∙ (content-told p.content m).is [] (ap others (append-nil i ∙ sym d) ∙ n.no-others)
+    let x = write-signs a f t in
+    d ∙ (content-told p.content).is [] (ap others (append-nil i ∙ sym d) ∙ n.no-others)
     (ap (count (code "<")) (sym d) ∙ n.less ∙ sym x.less) (ap (count (code ">")) (sym d) ∙ n.greater ∙ sym x.greater)
 
 -- THE law: a text that can be read is spelled exactly as its forest is written just where it is neat
-module _ (a : Bool) (s : Bytes) (f : Forest) (e : read a s ≡ whole f) (m : Bare f) where
+module _ (a : Bool) (s : Bytes) (f : Forest) (e : read a s ≡ whole f) where
   pub neat-spelled : Neat (tags f) s → same s (write f) ≡ true
-  neat-spelled n = ap (same s) (sym (neat-is a s f (read-sound a s f e) (read-tidy a s f e).0 m n)) ∙ same_self s
+  neat-spelled n = ap (same s) (sym (neat-is a s f (read-sound a s f e) (read-tidy a s f e).0 n)) ∙ same_self s
 
   pub spelled-neat : same s (write f) ≡ true → Neat (tags f) s
-  spelled-neat h = let t = read-tidy a s f e in rw (same-is s (write f) h) (write-neat a f t.0 m t.1)
+  spelled-neat h = let t = read-tidy a s f e in rw (same-is s (write f) h) (write-neat a f t.0 t.1)
 
   -- so a text that is not neat is spelled otherwise, and what is told last decides
   pub not-spelled : (Neat (tags f) s → ⊥) → same s (write f) ≡ false

@@ -1,7 +1,7 @@
 -- The counts of what is written; and what is read is as written where its counts are the same, piece by piece.
 use Rattle.std.specs.Prelude.{ℕ, suc, ◌+◌, ◌*◌, ◌≤◌, ◌≡◌, refl, Bool, true, false, ◌&&◌, eqb, leb, length}
 use Prim.Native.Char.{code}
-use Rattle.std.proofs.Common.{arith, ap₂, sym, ◌∙◌, subst, eqb-true, ne_eqb}
+use Rattle.std.proofs.Common.{arith, ap₂, sym, ◌∙◌, eqb-true, ne_eqb}
 use Rattle.std.proofs.Math.Path.{ap}
 use mathlib.Core.List.{[], ◌∷◌, ◌++◌, append_assoc, append-nil}
 use Rattle.std.proofs.lemmas.Bool.{eqb-false}
@@ -12,9 +12,7 @@ use Rattle.xml.specs.GrammarLaws.{character-not, lt-markup, amp-markup}
 use Rattle.xml.specs.Spelled.{meant-legal}
 use Rattle.xml.specs.SignLaws.{Plain, escape-one, escape-amp, escape-lt, escape-gt, escape-cons}
 use Rattle.xml.specs.Truth.{by-test, clash, and_right, both_true}
-use Rattle.xml.specs.Tags.{name_of}
-use Rattle.xml.specs.TagLaws.{name-of, start-bare}
-use Rattle.xml.specs.Neat.{Bare, count, others, tags}
+use Rattle.xml.specs.Neat.{count, others, tags}
 use Rattle.xml.specs.NeatLaws.{count-append, others-right, others-returns}
 
 -- ---- what is written: so many `<` and `>`, no `&` with `q` or `ap` after it and no CR, whatever comes next
@@ -93,7 +91,7 @@ escape-byte b r =
     let p : Plain b = record { no-amp = eqb-false b (code "&") x; no_lt = eqb-false b (code "<") y; no-gt = eqb-false b (code ">") z } in
     rw (escape-one b p) (plain-signs p r))))
 
-pub escape-signs : (t : Bytes) → all is_meant t ≡ true → Signs (escape t) 0 0
+escape-signs : (t : Bytes) → all is_meant t ≡ true → Signs (escape t) 0 0
 unfolding escape all
 escape-signs [] e = nil-signs
 escape-signs (b ∷ t) e =
@@ -164,26 +162,23 @@ pub signs-returns : {s : Bytes} {l g : ℕ} → Signs s l g → count (code "\r"
 unfolding others
 signs-returns {s} x = others-returns s (ap others (sym (append-nil s)) ∙ x.passes [])
 
-name-signs-of : (n : Bytes) → is_name n ≡ true → Signs (name_of n) 0 0
-name-signs-of n e = rw (name-of n e) (name-signs n e)
-
 -- two `<` and two `>` a tag
 counted : {s : Bytes} {l g : ℕ} (t : ℕ) → Signs s l g → l ≡ 2 * t → g ≡ 2 * t → Signs s (2 * t) (2 * t)
 counted t x e d = record { less = x.less ∙ e; greater = x.greater ∙ d; passes = x.passes }
 
-pub write-signs : (a : Bool) (f : Forest) → Tidy a f → Bare f → Signs (write f) (2 * tags f) (2 * tags f)
+pub write-signs : (a : Bool) (f : Forest) → Tidy a f → Signs (write f) (2 * tags f) (2 * tags f)
 unfolding write tags
-write-signs a end t b = nil-signs
-write-signs a (text s r) t b = counted (tags r) (then (escape-signs s t.1) (write-signs a r t.3 b)) (omega arith) (omega arith)
-write-signs a (elem n k r) t b =
-    let m = name-signs n b.0 in
+write-signs a end t = nil-signs
+write-signs a (text b r) t = counted (tags r) (then (escape-signs b t.1) (write-signs a r t.3)) (omega arith) (omega arith)
+write-signs a (elem n k r) t =
+    let m = name-signs n t.0 in
     counted (1 + tags k + tags r)
-    (then (then (then (then (then (then (then less-signs m) greater-signs) (write-signs a k t.1 b.1)) slash-signs) (name-signs-of n b.0)) greater-signs) (write-signs a r t.2 b.2))
+    (then (then (then (then (then (then (then less-signs m) greater-signs) (write-signs a k t.1)) slash-signs) m) greater-signs) (write-signs a r t.2))
     (omega arith) (omega arith)
-write-signs a (stamp u k r) t b =
+write-signs a (stamp u k r) t =
     let m = times-counts u t.1 in
     counted (1 + tags k + tags r)
-    (then (then (then (then (then times-signs m) quote-signs) (write-signs a k t.2 b.0)) close-signs) (write-signs a r t.3 b.1))
+    (then (then (then (then (then times-signs m) quote-signs) (write-signs a k t.2)) close-signs) (write-signs a r t.3))
     (omega arith) (omega arith)
 
 -- ---- a text, and what it is written as: never more `<`; for each `<` that is missing at most one `>` is; and the same where none is missing
@@ -261,17 +256,12 @@ lone-told n e =
     let m = name-signs n e in
     fewer (then (then less-signs m) lone-signs) (then (then (then (then (then (then less-signs m) greater-signs) nil-signs) slash-signs) m) greater-signs)
 
-pub content-told : {a : Bool} {s : Bytes} {f : Forest} → Content a s f → Bare f → Told s (write f)
+pub content-told : {a : Bool} {s : Bytes} {f : Forest} → Content a s f → Told s (write f)
 unfolding write
-content-told nothing b = fixed []
-content-told (run c e o n r) b = told-then (characters-told c) (content-told r b)
-content-told (element {n = n} {t = t} e c r) b =
-    let i = start-bare e b.0 in
-    rw (i.0, i.1, name-of n (subst (λ (x : Bytes). is_name x ≡ true) i.1 b.0))
-    (told-then (told-then (told-then (told-then (told-then (fixed (bytes "<" ++ n ++ bytes ">")) (content-told c b.1)) (fixed (bytes "</"))) (fixed n)) (fixed (bytes ">"))) (content-told r b.2))
-content-told (lone {n = n} {t = t} e r) b =
-    let i = start-bare e b.0 in
-    let j = subst (λ (x : Bytes). is_name x ≡ true) i.1 b.0 in
-    rw (i.0, i.1, name-of n j) (told-then (lone-told n j) (content-told r b.2))
-content-told (times {t = t} a e c r) b =
-    told-then (told-then (told-then (fixed (bytes "<T t=\"" ++ t ++ bytes "\">")) (content-told c b.0)) (fixed (bytes "</T>"))) (content-told r b.1)
+content-told nothing = fixed []
+content-told (run c e o n r) = told-then (characters-told c) (content-told r)
+content-told (element {n = n} e c r) =
+    told-then (told-then (told-then (told-then (told-then (fixed (bytes "<" ++ n ++ bytes ">")) (content-told c)) (fixed (bytes "</"))) (fixed n)) (fixed (bytes ">"))) (content-told r)
+content-told (lone {n = n} e r) = told-then (lone-told n e) (content-told r)
+content-told (times {t = t} a e c r) =
+    told-then (told-then (told-then (fixed (bytes "<T t=\"" ++ t ++ bytes "\">")) (content-told c)) (fixed (bytes "</T>"))) (content-told r)

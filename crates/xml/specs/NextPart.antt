@@ -23,7 +23,7 @@ use Rattle.xml.specs.declared.tag.Part.{Part}
 
 -- ---- lists of attributes
 -- no two have the same name
-abbrev pub Apart : List Attr → Type 0
+abbrev Apart : List Attr → Type 0
 Apart [] = Unit {0}
 Apart (x ∷ l) = (any_named (attr_name x) l ≡ false) × Apart l
 
@@ -42,7 +42,7 @@ above-none low [] e = refl
 above-none low (x ∷ l) e = let i = both_false (less low (attr_name x)) (any (λ y. less low (attr_name y)) l) e in above-off low x l i.0 ∙ above-none low l i.1
 
 -- of two names that differ, one comes first
-pub less-or : (n m : Bytes) → same n m ≡ false → less n m ≡ false → less m n ≡ true
+less-or : (n m : Bytes) → same n m ≡ false → less n m ≡ false → less m n ≡ true
 less-or n m d e = by-test (less m n) (λ h. h) (λ h. clash (sym (ap (same n) (sym (less-total n m e h)) ∙ same_self n) ∙ d))
 
 -- what does not come after `low` does not come after what does
@@ -114,7 +114,7 @@ named_new {used} n h (more {n = m} {s = s} {u = u} q new quote c within r) =
     ap (any_named n) (attributes-first m s u q (new-name used m new) within)
     ∙ neither (not_so (same n m) (λ e. clash (sym h ∙ ap (λ (x : Bytes). any (same x) used) (same-is n m e) ∙ new-unused used m new))) (named_new n (or-second (same n m) (any (same n) used) h) r)
 
-pub attributes-apart : {used : List Bytes} {u : Bytes} {l : List Attr} → Attributes used u l → Apart (parts 0 u)
+attributes-apart : {used : List Bytes} {u : Bytes} {l : List Attr} → Attributes used u l → Apart (parts 0 u)
 unfolding parts any attr_name
 attributes-apart none = tt
 attributes-apart {used} (more {n = n} {s = s} {u = u} q new quote c within r) =

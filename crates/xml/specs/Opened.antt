@@ -1,13 +1,12 @@
 -- What has been read spells what is open: the invariant of reading, and how it grows.
 use Rattle.std.specs.Prelude.{ℕ, ◌+◌, ◌≡◌, refl, Bool, true, false, ◌||◌, [], ◌∷◌, ◌++◌}
 use Rattle.std.proofs.Common.{ap, sym, ◌∙◌, subst, append_assoc, append-nil}
-use Rattle.xml.specs.Bytes.{Bytes, bytes, all, is_times, is_white}
+use Rattle.xml.specs.Bytes.{Bytes, bytes, all, is_name, is_times, is_white}
 use Rattle.xml.specs.Forest.{Forest, end, elem, text, stamp, join, NotText, Root}
-use Rattle.xml.specs.Grammar.{StartTag, Content, nothing, run, element, lone, times, Spells}
+use Rattle.xml.specs.Grammar.{Content, nothing, run, element, lone, times, Spells}
 use Rattle.xml.specs.Read.{Tag, named, timed, tag_name, tag_node, Stack, outer, inside, is_end}
 use Rattle.xml.specs.Truth.{clash, both_true, both}
 use Rattle.xml.specs.Spelled.{root-some}
-use Rattle.xml.specs.TagLaws.{start-name}
 use Rattle.xml.specs.Runs.{Ends}
 
 -- ---- contents one after another
@@ -33,30 +32,32 @@ unfolding join ends_text
 content-join nothing d h = d
 content-join {u = u} {r = r} (run {s = s} {u = v} {r = f} c e o n k) d h =
     rw (append_assoc s v u) (run c e o (text-join f r n h) (content-join k d (λ x. h (or_right (is_end f) x))))
-content-join {u = u} (element {w = w} {n = n} {s = s} {u = v} e c k) d h =
-    rw (append_assoc (bytes "<" ++ w ++ bytes ">" ++ s ++ bytes "</" ++ n ++ bytes ">") v u) (element e c (content-join k d h))
-content-join {u = u} (lone {w = w} {u = v} e k) d h = rw (append_assoc (bytes "<" ++ w ++ bytes "/>") v u) (lone e (content-join k d h))
+content-join {u = u} (element {n = n} {s = s} {u = v} e c k) d h =
+    rw (append_assoc (bytes "<" ++ n ++ bytes ">" ++ s ++ bytes "</" ++ n ++ bytes ">") v u) (element e c (content-join k d h))
+content-join {u = u} (lone {n = n} {u = v} e k) d h = rw (append_assoc (bytes "<" ++ n ++ bytes "/>") v u) (lone e (content-join k d h))
 content-join {u = u} (times {t = t} {s = s} {u = v} g e c k) d h =
     rw (append_assoc (bytes "<T t=\"" ++ t ++ bytes "\">" ++ s ++ bytes "</T>") v u) (times g e c (content-join k d h))
 
 -- ---- tags
--- the text of a start tag, and what it opens
-pub data Opens (a : Bool) : Bytes → Tag → Type 0 where
-  by_name : {w n t : Bytes} → StartTag a w n t → Opens a (bytes "<" ++ w ++ bytes ">") (named t)
-  by-times : {t : Bytes} → a ≡ true → all is_times t ≡ true → Opens a (bytes "<T t=\"" ++ t ++ bytes "\">") (timed t)
+abbrev pub opening : Tag → Bytes
+opening (named n) = bytes "<" ++ n ++ bytes ">"
+opening (timed t) = bytes "<T t=\"" ++ t ++ bytes "\">"
 
 abbrev pub closing : Tag → Bytes
 closing o = bytes "</" ++ tag_name o ++ bytes ">"
+
+abbrev pub Legal : Bool → Tag → Type 0
+Legal a (named n) = is_name n ≡ true
+Legal a (timed t) = (a ≡ true) × (all is_times t ≡ true)
 
 times-shut : bytes "</" ++ bytes "T" ++ bytes ">" ≡ bytes "</T>"
 unfolding bytes
 times-shut = refl
 
-node : {a : Bool} {s v : Bytes} {f : Forest} {o : Tag} → Opens a v o → Content a s f → Content a (v ++ s ++ closing o) (tag_node o f)
-node {a} {s} {f = f} (by_name {w = w} {n = n} {t = t} e) c =
-    subst (λ (y : Bytes). Content a ((bytes "<" ++ w ++ bytes ">") ++ s ++ (bytes "</" ++ y ++ bytes ">")) (elem t f end)) (sym (start-name e))
-    (subst (λ (x : Bytes). Content a x (elem t f end)) (simp (append_assoc, append-nil)) (element e c nothing))
-node (by-times h l) c = rw times-shut (rw append-nil at (times h l c nothing))
+node : {a : Bool} {s : Bytes} {f : Forest} (o : Tag) → Legal a o → Content a s f → Content a (opening o ++ s ++ closing o) (tag_node o f)
+node {a} {s} {f} (named n) l c =
+    subst (λ (x : Bytes). Content a x (elem n f end)) (simp (append_assoc, append-nil)) (element l c nothing)
+node {a} {s} {f} (timed t) l c = rw times-shut (rw append-nil at (times l.0 l.1 c nothing))
 
 -- ---- what has been read: white space; one root, and white space after it; or what stands before an open tag, the tag, and content so far
 abbrev pub Fresh : Stack → Forest → Type 0
@@ -66,8 +67,8 @@ Fresh (inside o f st) g = Unit {0}
 pub data Opened (a : Bool) : Stack → Bytes → Forest → Type 0 where
   blank : {w : Bytes} → all is_white w ≡ true → Opened a outer w end
   done : {s : Bytes} {f : Forest} → Spells a s f → Opened a outer s f
-  within : {st : Stack} {p s v : Bytes} {g f : Forest} {o : Tag} → Opened a st p g → Fresh st g → Opens a v o → Content a s f →
-      Opened a (inside o g st) (p ++ v ++ s) f
+  within : {st : Stack} {p s : Bytes} {g f : Forest} (o : Tag) → Opened a st p g → Fresh st g → Legal a o → Content a s f →
+      Opened a (inside o g st) (p ++ opening o ++ s) f
 
 -- what may follow: after a run of text, a `<` or nothing
 abbrev pub Free : Stack → Forest → Bytes → Type 0
@@ -77,7 +78,7 @@ Free (inside o g st) f s = ends_text f ≡ true → Ends s
 -- more content in an element
 pub opened-more : {a : Bool} {o : Tag} {g f x : Forest} {st : Stack} {p v : Bytes} → Opened a (inside o g st) p f → Content a v x → (ends_text f ≡ true → NotText x) →
     Opened a (inside o g st) (p ++ v) (join f x)
-opened-more {v = v} (within {p = p} {s = s} {v = w} q h l c) d e = rw (append_assoc (p ++ w) s v) (within q h l (content-join c d e))
+opened-more {v = v} (within {p = p} {s = s} o q h l c) d e = rw (append_assoc (p ++ opening o) s v) (within o q h l (content-join c d e))
 
 root-text : (f : Forest) → Root f → NotText f
 root-text end r = tt
@@ -91,11 +92,11 @@ unfolding join all
 opened-node {v = v} (blank {w = w} e) h c r =
     done (record { before = w; inner = v; after = []; text-is = sym (append-nil (w ++ v)); white-before = e; white-after = refl; content = c; root = r })
 opened-node (done {f = f} s) h c r = clash (sym h ∙ root-some f s.root)
-opened-node {x = x} (within q f l d) h c r = opened-more (within q f l d) c (λ e. root-text x r)
+opened-node {x = x} (within o q f l d) h c r = opened-more (within o q f l d) c (λ e. root-text x r)
 
 -- a start tag
-pub opened-start : {a : Bool} {st : Stack} {p v : Bytes} {g : Forest} {o : Tag} → Opened a st p g → Fresh st g → Opens a v o → Opened a (inside o g st) (p ++ v) end
-opened-start q h l = rw append-nil at (within q h l nothing)
+pub opened-start : {a : Bool} {st : Stack} {p : Bytes} {g : Forest} (o : Tag) → Opened a st p g → Fresh st g → Legal a o → Opened a (inside o g st) (p ++ opening o) end
+opened-start {a} {st} {p} {g} o q h l = rw append-nil at (within o q h l nothing)
 
 -- an end tag
 pub node-root : (o : Tag) (f : Forest) → Root (tag_node o f)
@@ -103,8 +104,8 @@ node-root (named n) f = refl
 node-root (timed t) f = refl
 
 pub opened-end : {a : Bool} {o : Tag} {st : Stack} {p : Bytes} {g f : Forest} → Opened a (inside o g st) p f → Opened a st (p ++ closing o) (join g (tag_node o f))
-opened-end {a} {o} {st} {g = g} {f = f} (within q h l c) =
-    subst (λ (x : Bytes). Opened a st x (join g (tag_node o f))) (simp append_assoc) (opened-node q h (node l c) (node-root o f))
+opened-end {a} {st = st} {g = g} {f = f} (within {p = p} {s = s} o q h l c) =
+    subst (λ (x : Bytes). Opened a st x (join g (tag_node o f))) (simp append_assoc) (opened-node q h (node o l c) (node-root o f))
 
 -- white space outside the root
 all_append : (f : ℕ → Bool) (s t : Bytes) → all f s ≡ true → all f t ≡ true → all f (s ++ t) ≡ true

@@ -155,7 +155,7 @@ pub data Tag : Type 0 where
 
 -- the name in its end tag, and the node that it makes
 abbrev pub tag_name : Tag → Bytes
-tag_name (named n) = name_of n
+tag_name (named n) = n
 tag_name (timed t) = bytes "T"
 
 abbrev pub tag_node : Tag → Forest → Forest
@@ -195,29 +195,25 @@ times_of st f s m =
       | false ↦ wrong (2 + m)
     ]
 
--- after `<`: n bytes of a name and attributes, and `>` or `/>`; in an archive also ` t=".."` after the name T
+-- after `<`: a name of n bytes, and `>` or `/>`; in an archive also ` t=".."` after the name T
 unfoldable pub start_of : Bool → Stack → Forest → Bytes → ℕ → Move
 start_of a st f s n =
     elim (eqb n 0) [
       | true ↦ wrong 1
       | false ↦
           elim (eqb (get_or s n 0) (code ">")) [
-            | true ↦ move (inside (named (tag_of (take n s))) f st) end (1 + n)
+            | true ↦ move (inside (named (take n s)) f st) end (1 + n)
             | false ↦
                 elim (eqb (get_or s n 0) (code "/")) [
-                  | true ↦ elim (eqb (get_or s (1 + n) 0) (code ">")) [ true ↦ move st (join f (elem (tag_of (take n s)) end end)) (2 + n) | false ↦ wrong (2 + n) ]
+                  | true ↦ elim (eqb (get_or s (1 + n) 0) (code ">")) [ true ↦ move st (join f (elem (take n s) end end)) (2 + n) | false ↦ wrong (2 + n) ]
                   | false ↦
                       elim (a && same (take n s) (bytes "T")) [ true ↦ times_of st f (drop 1 s) (common (bytes " t=\"") (drop 1 s)) | false ↦ wrong (1 + n) ]
                 ]
           ]
     ]
 
-abbrev pub start_by : Bool → Stack → Forest → Bytes → Run → Move
-start_by a st f s (Upto n) = start_of a st f s n
-start_by a st f s (Stop k) = wrong (1 + k)
-
 abbrev pub start_tag : Bool → Stack → Forest → Bytes → Move
-start_tag a st f s = start_by a st f s (tag_len a s)
+start_tag a st f s = start_of a st f s (name_len s)
 
 -- after `</`: the name of what is open, with which m bytes agree, and `>`
 unfoldable pub end_of : Tag → Forest → Stack → Forest → Bytes → ℕ → Move
@@ -275,8 +271,3 @@ read-test = refl
 pub times-test : written (read true (bytes "<T t=\"1-2,4\"><a>]]&gt;</a><T/></T>")) ≡ bytes "<T t=\"1-2,4\"><a>]]&gt;</a><T></T></T>"
 unfolding read_compute written
 times-test = refl
-
--- attributes in either quote, in any order
-pub attrs-test : written (read false (bytes "<a c='\"' b=\"&gt;]]>'\"><b x=''/></a>")) ≡ bytes "<a b=\">]]>'\" c=\"&quot;\"><b x=\"\"></b></a>"
-unfolding read_compute written
-attrs-test = refl

@@ -1,15 +1,14 @@
 -- Two parts of tapes are the same forest where they agree node by node.
 use Rattle.std.specs.Prelude.{ℕ, ◌+◌, ◌*◌, ◌-◌, ◌%◌, ◌<◌, ◌≤◌, ◌≡◌, refl, Bool, true, false, not, List, eqb, leb, length}
-use Rattle.std.proofs.Common.{ap, ap₂, sym, ◌∙◌, arith, eqb-true, leb-true, leb-false}
+use Rattle.std.proofs.Common.{ap, ap₂, sym, ◌∙◌, arith, eq-eqb, ne_eqb, eqb-true, leb-true, leb-false}
 use Rattle.std.proofs.lemmas.Bool.{eqb-false}
 use Rattle.xml.specs.Bytes.{Bytes, same}
 use Rattle.xml.specs.BytesLaws.{same_self, forest-is, forest-self}
 use Rattle.xml.specs.Truth.{by-test, clash, not_so}
 use Rattle.xml.specs.Forest.{Forest, text, same_forest}
-use Rattle.xml.specs.Read.{unescape, tag_of}
-use Rattle.xml.specs.Tape.{head_at, next_at, end_in, Node, Tagged, Tape, at-end, at-text, at-elem, at-stamp, size}
-use Rattle.xml.specs.TagLaws.{Tag, start-means}
-use Rattle.xml.specs.TapeLaws.{meaning, means-text, means-tag, means-times, bytes_at, tagged-start, tape-le, tape-size}
+use Rattle.xml.specs.Read.{unescape}
+use Rattle.xml.specs.Tape.{head_at, next_at, end_in, Node, Tape, at-end, at-text, at-elem, at-stamp, size}
+use Rattle.xml.specs.TapeLaws.{bytes_at, tape-le, tape-size}
 
 -- two parts of texts
 pub record Parts (src₁ : List ℕ) (a₁ e₁ : ℕ) (src₂ : List ℕ) (a₂ e₂ : ℕ) : Type 0 where
@@ -18,25 +17,29 @@ pub record Parts (src₁ : List ℕ) (a₁ e₁ : ℕ) (src₂ : List ℕ) (a₂
   pub le₂ : a₂ ≤ e₂
   pub in₂ : e₂ ≤ length src₂
 
+-- what the bytes that name a node mean: a run of text, or a name or times
+abbrev pub meaning : Bool → Bytes → Bytes
+meaning true raw = unescape 0 raw
+meaning false raw = raw
+
 -- ---- any node of a tape
 pub record At (src cells : List ℕ) (p : ℕ) : Type 0 where
   pub held : 2 * p + 1 < length cells
   pub within : end_in (head_at cells p) ≤ length src
   pub forward : p < next_at cells p
-  pub tagged : head_at cells p % 4 ≡ 1 → Tag false (bytes_at src cells p)
 
 module _ {src cells : List ℕ} where
   pub tape-at : {p q : ℕ} {f : Forest} (i : ℕ) → Tape src cells p q f → p ≤ i → i < q → At src cells i
   tape-at i (at-end e) h l = absurd (omega arith)
   tape-at {p} i (at-text n u e r) h l =
-      by-test (eqb i p) (λ x. rw (eqb-true i p x) (record { held = n.held; within = n.within; forward = omega arith; tagged = λ k. absurd (omega (arith, n.kind-is)) }))
+      by-test (eqb i p) (λ x. rw (eqb-true i p x) (record { held = n.held; within = n.within; forward = omega arith }))
       (λ x. tape-at i r (omega (arith, eqb-false i p x)) l)
   tape-at {p} i (at-elem n k r) h l =
-      by-test (eqb i p) (λ x. rw (eqb-true i p x) (record { held = n.node.held; within = n.node.within; forward = omega (arith, tape-le k); tagged = λ x. tagged-start n }))
+      by-test (eqb i p) (λ x. rw (eqb-true i p x) (record { held = n.held; within = n.within; forward = omega (arith, tape-le k) }))
       (λ x. by-test (leb (next_at cells p) i) (λ y. tape-at i r (leb-true (next_at cells p) i y) l)
       (λ y. tape-at i k (omega (arith, eqb-false i p x)) (leb-false (next_at cells p) i y)))
   tape-at {p} i (at-stamp n k r) h l =
-      by-test (eqb i p) (λ x. rw (eqb-true i p x) (record { held = n.held; within = n.within; forward = omega (arith, tape-le k); tagged = λ x. absurd (omega (arith, n.kind-is)) }))
+      by-test (eqb i p) (λ x. rw (eqb-true i p x) (record { held = n.held; within = n.within; forward = omega (arith, tape-le k) }))
       (λ x. by-test (leb (next_at cells p) i) (λ y. tape-at i r (leb-true (next_at cells p) i y) l)
       (λ y. tape-at i k (omega (arith, eqb-false i p x)) (leb-false (next_at cells p) i y)))
 
@@ -44,7 +47,7 @@ module _ {src cells : List ℕ} where
 pub record Agrees (src₁ cells₁ : List ℕ) (p : ℕ) (src₂ cells₂ : List ℕ) (q : ℕ) : Type 0 where
   pub kind : head_at cells₁ p % 4 ≡ head_at cells₂ q % 4
   pub far : next_at cells₁ p - p ≡ next_at cells₂ q - q
-  pub says : meaning (head_at cells₁ p % 4) (bytes_at src₁ cells₁ p) ≡ meaning (head_at cells₁ p % 4) (bytes_at src₂ cells₂ q)
+  pub says : meaning (eqb (head_at cells₁ p % 4) 0) (bytes_at src₁ cells₁ p) ≡ meaning (eqb (head_at cells₁ p % 4) 0) (bytes_at src₂ cells₂ q)
 
 -- the nodes p to q of one tape agree with those from u on of the other
 abbrev pub Agree : List ℕ → List ℕ → ℕ → ℕ → List ℕ → List ℕ → ℕ → Type 0
@@ -60,19 +63,12 @@ by_part i m f g = by-test (leb m i) (λ x. g (leb-true m i x)) (λ x. f (leb-fal
 module _ {src₁ cells₁ src₂ cells₂ : List ℕ} where
   text_says : {p u : ℕ} {raw raw' b c : Bytes} → Node src₁ cells₁ p 0 raw → unescape 0 raw ≡ b → Node src₂ cells₂ u 0 raw' → unescape 0 raw' ≡ c
       → Agrees src₁ cells₁ p src₂ cells₂ u → b ≡ c
-  text_says {p} {u} n e m d g =
-      sym e ∙ ap (unescape 0) (sym n.bytes-are) ∙ sym (means-text (head_at cells₁ p % 4) (bytes_at src₁ cells₁ p) n.kind-is) ∙ g.says
-      ∙ means-text (head_at cells₁ p % 4) (bytes_at src₂ cells₂ u) n.kind-is ∙ ap (unescape 0) m.bytes-are ∙ d
+  text_says {p} n e m d g =
+      sym e ∙ ap (unescape 0) (sym n.bytes-are) ∙ (rw (eq-eqb (head_at cells₁ p % 4) 0 n.kind-is) at g.says) ∙ ap (unescape 0) m.bytes-are ∙ d
 
-  tag-says : {p u : ℕ} {b c : Bytes} → Tagged src₁ cells₁ p b → Tagged src₂ cells₂ u c → Agrees src₁ cells₁ p src₂ cells₂ u → b ≡ c
-  tag-says {p} {u} n m g =
-      sym (start-means n.start) ∙ ap tag_of (sym n.node.bytes-are) ∙ sym (means-tag (head_at cells₁ p % 4) (bytes_at src₁ cells₁ p) n.node.kind-is) ∙ g.says
-      ∙ means-tag (head_at cells₁ p % 4) (bytes_at src₂ cells₂ u) n.node.kind-is ∙ ap tag_of m.node.bytes-are ∙ start-means m.start
-
-  times-says : {p u : ℕ} {b c : Bytes} → Node src₁ cells₁ p 2 b → Node src₂ cells₂ u 2 c → Agrees src₁ cells₁ p src₂ cells₂ u → b ≡ c
-  times-says {p} {u} n m g =
-      sym n.bytes-are ∙ sym (means-times (head_at cells₁ p % 4) (bytes_at src₁ cells₁ p) n.kind-is) ∙ g.says
-      ∙ means-times (head_at cells₁ p % 4) (bytes_at src₂ cells₂ u) n.kind-is ∙ m.bytes-are
+  name-says : {p u k : ℕ} {b c : Bytes} → 0 < k → Node src₁ cells₁ p k b → Node src₂ cells₂ u k c → Agrees src₁ cells₁ p src₂ cells₂ u → b ≡ c
+  name-says {p} h n m g =
+      sym n.bytes-are ∙ (rw (ne_eqb (head_at cells₁ p % 4) 0 (omega (arith, n.kind-is))) at g.says) ∙ m.bytes-are
 
   -- where all agree, it is one forest
   pub agree_same : {p q u v : ℕ} {f g : Forest} → Tape src₁ cells₁ p q f → Tape src₂ cells₂ u v g → q - p ≡ v - u → Agree src₁ cells₁ p q src₂ cells₂ u → f ≡ g
@@ -87,12 +83,12 @@ module _ {src₁ cells₁ src₂ cells₂ : List ℕ} where
       ap₂ text (text_says n w m x (a p u (omega arith) (omega arith) (omega arith) (omega arith)))
       (agree_same r s (omega arith) (λ i j h g t b. a i j (omega arith) g (omega arith) (omega arith)))
   agree_same {p} {u = u} (at-text n w e r) (at-elem m k s) l a =
-      absurd (omega (arith, n.kind-is, m.node.kind-is, tape-le r, (a p u (omega arith) (omega (arith, tape-le r)) (omega arith) (omega arith)).kind))
+      absurd (omega (arith, n.kind-is, m.kind-is, tape-le r, (a p u (omega arith) (omega (arith, tape-le r)) (omega arith) (omega arith)).kind))
   agree_same {p} {u = u} (at-text n w e r) (at-stamp m k s) l a =
       absurd (omega (arith, n.kind-is, m.kind-is, tape-le r, (a p u (omega arith) (omega (arith, tape-le r)) (omega arith) (omega arith)).kind))
   agree_same (at-elem n k r) (at-end d) l a = absurd (omega (arith, tape-le k, tape-le r))
   agree_same {p} {u = u} (at-elem n k r) (at-text m w d s) l a =
-      absurd (omega (arith, n.node.kind-is, m.kind-is, (a p u (omega arith) (omega (arith, tape-le k, tape-le r)) (omega arith) (omega arith)).kind))
+      absurd (omega (arith, n.kind-is, m.kind-is, (a p u (omega arith) (omega (arith, tape-le k, tape-le r)) (omega arith) (omega arith)).kind))
   agree_same {p} {u = u} (at-elem {n = b} {k = f} {r = f'} n k r) (at-elem {n = c} {k = g} {r = g'} m j s) l a =
       let o = tape-le k in
       let y = tape-le r in
@@ -100,17 +96,17 @@ module _ {src₁ cells₁ src₂ cells₂ : List ℕ} where
       let t = tape-le s in
       let h = a p u (omega arith) (omega arith) (omega arith) (omega arith) in
       let d = h.far in
-      let x : b ≡ c = tag-says n m h in
+      let x : b ≡ c = name-says (omega arith) n m h in
       let w : f ≡ g = agree_same k j (omega arith) (λ i' j' α β γ δ. a i' j' (omega arith) (omega arith) (omega arith) (omega arith)) in
       let w' : f' ≡ g' = agree_same r s (omega arith) (λ i' j' α β γ δ. a i' j' (omega arith) (omega arith) (omega arith) (omega arith)) in
       cc
   agree_same {p} {u = u} (at-elem n k r) (at-stamp m j s) l a =
-      absurd (omega (arith, n.node.kind-is, m.kind-is, (a p u (omega arith) (omega (arith, tape-le k, tape-le r)) (omega arith) (omega arith)).kind))
+      absurd (omega (arith, n.kind-is, m.kind-is, (a p u (omega arith) (omega (arith, tape-le k, tape-le r)) (omega arith) (omega arith)).kind))
   agree_same (at-stamp n k r) (at-end d) l a = absurd (omega (arith, tape-le k, tape-le r))
   agree_same {p} {u = u} (at-stamp n k r) (at-text m w d s) l a =
       absurd (omega (arith, n.kind-is, m.kind-is, (a p u (omega arith) (omega (arith, tape-le k, tape-le r)) (omega arith) (omega arith)).kind))
   agree_same {p} {u = u} (at-stamp n k r) (at-elem m j s) l a =
-      absurd (omega (arith, n.kind-is, m.node.kind-is, (a p u (omega arith) (omega (arith, tape-le k, tape-le r)) (omega arith) (omega arith)).kind))
+      absurd (omega (arith, n.kind-is, m.kind-is, (a p u (omega arith) (omega (arith, tape-le k, tape-le r)) (omega arith) (omega arith)).kind))
   agree_same {p} {u = u} (at-stamp {t = b} {k = f} {r = f'} n k r) (at-stamp {t = c} {k = g} {r = g'} m j s) l a =
       let o = tape-le k in
       let y = tape-le r in
@@ -118,36 +114,27 @@ module _ {src₁ cells₁ src₂ cells₂ : List ℕ} where
       let t = tape-le s in
       let h = a p u (omega arith) (omega arith) (omega arith) (omega arith) in
       let d = h.far in
-      let x : b ≡ c = times-says n m h in
+      let x : b ≡ c = name-says (omega arith) n m h in
       let w : f ≡ g = agree_same k j (omega arith) (λ i' j' α β γ δ. a i' j' (omega arith) (omega arith) (omega arith) (omega arith)) in
       let w' : f' ≡ g' = agree_same r s (omega arith) (λ i' j' α β γ δ. a i' j' (omega arith) (omega arith) (omega arith) (omega arith)) in
       cc
 
   text-agrees : {p u : ℕ} {raw raw' b : Bytes} → Node src₁ cells₁ p 0 raw → unescape 0 raw ≡ b → Node src₂ cells₂ u 0 raw' → unescape 0 raw' ≡ b
       → next_at cells₁ p - p ≡ next_at cells₂ u - u → Agrees src₁ cells₁ p src₂ cells₂ u
-  text-agrees {p} {u} n e m d l =
+  text-agrees {p} n e m d l =
       record {
         kind = n.kind-is ∙ sym m.kind-is;
         far = l;
-        says = means-text (head_at cells₁ p % 4) (bytes_at src₁ cells₁ p) n.kind-is ∙ ap (unescape 0) n.bytes-are ∙ e ∙ sym d ∙ ap (unescape 0) (sym m.bytes-are)
-            ∙ sym (means-text (head_at cells₁ p % 4) (bytes_at src₂ cells₂ u) n.kind-is);
+        says = rw (eq-eqb (head_at cells₁ p % 4) 0 n.kind-is) (ap (unescape 0) n.bytes-are ∙ e ∙ sym d ∙ ap (unescape 0) (sym m.bytes-are));
       }
 
-  tag-agrees : {p u : ℕ} {b : Bytes} → Tagged src₁ cells₁ p b → Tagged src₂ cells₂ u b → next_at cells₁ p - p ≡ next_at cells₂ u - u → Agrees src₁ cells₁ p src₂ cells₂ u
-  tag-agrees {p} {u} n m l =
-      record {
-        kind = n.node.kind-is ∙ sym m.node.kind-is;
-        far = l;
-        says = means-tag (head_at cells₁ p % 4) (bytes_at src₁ cells₁ p) n.node.kind-is ∙ ap tag_of n.node.bytes-are ∙ start-means n.start ∙ sym (start-means m.start)
-            ∙ ap tag_of (sym m.node.bytes-are) ∙ sym (means-tag (head_at cells₁ p % 4) (bytes_at src₂ cells₂ u) n.node.kind-is);
-      }
-
-  times-agrees : {p u : ℕ} {b : Bytes} → Node src₁ cells₁ p 2 b → Node src₂ cells₂ u 2 b → next_at cells₁ p - p ≡ next_at cells₂ u - u → Agrees src₁ cells₁ p src₂ cells₂ u
-  times-agrees {p} {u} n m l =
+  name-agrees : {p u k : ℕ} {b : Bytes} → 0 < k → Node src₁ cells₁ p k b → Node src₂ cells₂ u k b → next_at cells₁ p - p ≡ next_at cells₂ u - u
+      → Agrees src₁ cells₁ p src₂ cells₂ u
+  name-agrees {p} h n m l =
       record {
         kind = n.kind-is ∙ sym m.kind-is;
         far = l;
-        says = means-times (head_at cells₁ p % 4) (bytes_at src₁ cells₁ p) n.kind-is ∙ n.bytes-are ∙ sym m.bytes-are ∙ sym (means-times (head_at cells₁ p % 4) (bytes_at src₂ cells₂ u) n.kind-is);
+        says = rw (ne_eqb (head_at cells₁ p % 4) 0 (omega (arith, n.kind-is))) (n.bytes-are ∙ sym m.bytes-are);
       }
 
   -- one forest's nodes agree
@@ -159,13 +146,13 @@ module _ {src₁ cells₁ src₂ cells₂ : List ℕ} where
   same-agree {p} {u = u} (at-elem n k r) (at-elem m k' r') i j h l t b =
       let x = tape-size k in
       let y = tape-size k' in
-      by_first i p h (λ z. let g : j ≡ u = omega arith in rw (z, g) (tag-agrees n m (omega arith)))
+      by_first i p h (λ z. let g : j ≡ u = omega arith in rw (z, g) (name-agrees (omega arith) n m (omega arith)))
       (λ z. by_part i (next_at cells₁ p) (λ g. same-agree k k' i j (omega arith) g (omega arith) (omega arith))
       (λ g. same-agree r r' i j g l (omega arith) (omega arith)))
   same-agree {p} {u = u} (at-stamp n k r) (at-stamp m k' r') i j h l t b =
       let x = tape-size k in
       let y = tape-size k' in
-      by_first i p h (λ z. let g : j ≡ u = omega arith in rw (z, g) (times-agrees n m (omega arith)))
+      by_first i p h (λ z. let g : j ≡ u = omega arith in rw (z, g) (name-agrees (omega arith) n m (omega arith)))
       (λ z. by_part i (next_at cells₁ p) (λ g. same-agree k k' i j (omega arith) g (omega arith) (omega arith))
       (λ g. same-agree r r' i j g l (omega arith) (omega arith)))
 

@@ -1,8 +1,7 @@
 -- Texts that are read by computing: what each spells, or the place of its first wrong byte.
-use Rattle.std.specs.Prelude.{◌≡◌, refl, List, [], ◌∷◌, ◌++◌, true, false}
-use Rattle.xml.specs.Bytes.{Bytes, bytes}
-use Rattle.xml.specs.Tags.{fresh, tags_compute}
-use Rattle.xml.specs.Forest.{end, elem, text, stamp, nodes}
+use Rattle.std.specs.Prelude.{◌≡◌, refl, true, false}
+use Rattle.xml.specs.Bytes.{bytes}
+use Rattle.xml.specs.Forest.{end, elem, text, stamp}
 use Rattle.xml.specs.Read.{whole, broken, read, read_compute}
 
 -- a record with text and elements
@@ -85,6 +84,11 @@ pub long-name : read false (bytes "<aaaaaaaaaaaaaaaaaaaaaaaaaaaaaaaaa>") ≡ bro
 unfolding read_compute
 long-name = refl
 
+-- times in a version's text
+pub version-times : read false (bytes "<T t=\"1\"></T>") ≡ broken 2
+unfolding read_compute
+version-times = refl
+
 -- times in other quotes
 pub times-quote : read true (bytes "<T t='1'></T>") ≡ broken 5
 unfolding read_compute
@@ -100,8 +104,8 @@ pub times-slash : read true (bytes "<T t=\"1\"/>") ≡ broken 8
 unfolding read_compute
 times-slash = refl
 
--- after another name there are attributes
-pub times-name : read true (bytes "<Tx t=\"1\"></Tx>") ≡ whole (elem (bytes "Tx t=\"1\"") end end)
+-- times after another name
+pub times-name : read true (bytes "<Tx t=\"1\"></Tx>") ≡ broken 3
 unfolding read_compute
 times-name = refl
 
@@ -144,105 +148,3 @@ lines-place = refl
 pub lines-early : read false (bytes "<a>\r\n\r") ≡ broken 6
 unfolding read_compute
 lines-early = refl
-
--- ---- attributes
--- in either quote, by ascending names; a tab may not stand in a value, but `>`, `]]>` and the other quote may
-pub attributes : read false (bytes "<n><reading unit='h' at=\"&quot;]]>'\"/></n>") ≡ whole (elem (bytes "n") (elem (bytes "reading at=\"&quot;]]>'\" unit=\"h\"") end end) end)
-unfolding read_compute
-attributes = refl
-
--- the order and the spelling of attributes make no difference
-pub attribute-order : read false (bytes "<a y='&gt;' x=''/>") ≡ read false (bytes "<a x=\"\" y=\">\"></a>")
-unfolding read_compute
-attribute-order = refl
-
--- in a version `t` of a T is an attribute as any other; in an archive it is its times, and an archive's T has no attributes
-pub version-times : read false (bytes "<T t=\"1\"/>") ≡ whole (elem (bytes "T t=\"1\"") end end)
-unfolding read_compute
-version-times = refl
-
-pub archive-attributes : read true (bytes "<T t=\"1\"><a b=\"c\"></a></T>") ≡ whole (stamp (bytes "1") (elem (bytes "a b=\"c\"") end end) end)
-unfolding read_compute
-archive-attributes = refl
-
-pub archive-T-other : read true (bytes "<T u=\"1\"></T>") ≡ broken 3
-unfolding read_compute
-archive-T-other = refl
-
--- a name that is used is wrong where it ends: at its `=`
-pub repeated : read false (bytes "<a x=\"1\" x=\"2\"/>") ≡ broken 10
-unfolding read_compute
-repeated = refl
-
-pub longer : read false (bytes "<a x='' xy='' x-='z'/>") ≡ whole (elem (bytes "a x=\"\" x-=\"z\" xy=\"\"") end end)
-unfolding read_compute
-longer = refl
-
--- or at its last byte, where no name can continue it: one of 32 bytes, or one of 31 whose every continuation is used
-pub repeated-long : read false (bytes "<a abcdefghijklmnopqrstuvwxyz012345='' abcdefghijklmnopqrstuvwxyz012345=''/>") ≡ broken 70
-unfolding read_compute
-repeated-long = refl
-
-pub too_long : read false (bytes "<a abcdefghijklmnopqrstuvwxyz0123456=''/>") ≡ broken 35
-unfolding read_compute
-too_long = refl
-
-unfoldable pub extended : Bytes → Bytes → List Bytes
-extended q [] = q ∷ []
-extended q (b ∷ s) = (q ++ b ∷ []) ∷ extended q s
-
-pub spent : fresh 1 (extended (bytes "abcdefghijklmnopqrstuvwxyz01234") (bytes "ABCDEFGHIJKLMNOPQRSTUVWXYZabcdefghijklmnopqrstuvwxyz0123456789.-_")) (bytes "abcdefghijklmnopqrstuvwxyz01234") ≡ false
-unfolding tags_compute extended
-spent = refl
-
--- one left: `_`
-pub not-spent : fresh 1 (extended (bytes "abcdefghijklmnopqrstuvwxyz01234") (bytes "ABCDEFGHIJKLMNOPQRSTUVWXYZabcdefghijklmnopqrstuvwxyz0123456789.-")) (bytes "abcdefghijklmnopqrstuvwxyz01234") ≡ true
-unfolding tags_compute extended
-not-spent = refl
-
--- one space before each, and none elsewhere
-pub space-alone : read false (bytes "<a >") ≡ broken 3
-unfolding read_compute
-space-alone = refl
-
-pub two-spaces : read false (bytes "<a  x=''/>") ≡ broken 3
-unfolding read_compute
-two-spaces = refl
-
-pub no-space : read false (bytes "<a x=''y=''/>") ≡ broken 7
-unfolding read_compute
-no-space = refl
-
-pub spaced-equals : read false (bytes "<a x =''/>") ≡ broken 4
-unfolding read_compute
-spaced-equals = refl
-
-pub space-before-end : read false (bytes "<a x='' />") ≡ broken 8
-unfolding read_compute
-space-before-end = refl
-
--- a value between quotes, with no `<` and no tab
-pub no-quote : read false (bytes "<a x=1/>") ≡ broken 5
-unfolding read_compute
-no-quote = refl
-
-pub value-less : read false (bytes "<a x='<'/>") ≡ broken 6
-unfolding read_compute
-value-less = refl
-
-pub value-tab : read false (bytes "<a x='b\tc'/>") ≡ broken 7
-unfolding read_compute
-value-tab = refl
-
-pub value-entity : read false (bytes "<a x='&lx;'/>") ≡ broken 8
-unfolding read_compute
-value-entity = refl
-
-pub value-open : read false (bytes "<a x='b") ≡ broken 7
-unfolding read_compute
-value-open = refl
-
--- each attribute is a node, but a T's t
-pub nodes-counted : nodes (elem (bytes "a b=\"\" c=\" d=\"") (elem (bytes "T t=\"1\" u=\"2\"") end end) end) ≡ 4
-unfolding read_compute
-nodes-counted = refl

@@ -1,4 +1,4 @@
--- A run of text or a value by its raw bytes: what is meant first, and which bytes are written as they stand.
+-- A run of text by its raw bytes: what is meant first, and how many bytes at the start are written as they stand.
 use Rattle.std.specs.Prelude.{ℕ, suc, ◌+◌, Bool, true, false, ◌||◌, [], ◌∷◌, eqb, get_or}
 use Prim.Native.Char.{code}
 use Rattle.xml.specs.Bytes.{Bytes}
@@ -20,10 +20,6 @@ is_marked b = eqb b (code "&") || eqb b (code "<") || eqb b (code ">") || eqb b 
 unfoldable pub plain_len : Bytes → ℕ
 plain_len [] = 0
 plain_len (b ∷ s) = elim (is_marked b) [ true ↦ 0 | false ↦ suc (plain_len s) ]
-
--- a byte of a value that begins an entity or a line end, or is written as an entity; any other is written as it stands
-unfoldable pub is_value_mark : ℕ → Bool
-is_value_mark b = eqb b (code "&") || eqb b (code "<") || eqb b (code "\"") || eqb b (code "\r")
 
 -- at the place i stands an `&`, with o after it
 abbrev pub sign_found : ℕ → ℕ → Found → Sign

@@ -9,15 +9,14 @@ use Rattle.xml.specs.Grammar.{Entity, lt, gt, amp, quot, apos, Characters, none,
 use Rattle.xml.specs.Read.{is_end}
 use Rattle.xml.specs.Truth.{by-test, clash, both_true}
 use Rattle.xml.specs.GrammarLaws.{legal-character, characters-legal, characters-some}
-use Rattle.xml.specs.TagLaws.{start-written, written_start}
 use Rattle.xml.specs.Clear.{Clear, clear-nil, clear-entity, clear-bracket, clear-other}
 
 -- ---- what is spelled is tidy
 pub content-tidy : {a : Bool} {s : Bytes} {f : Forest} → Content a s f → Tidy a f
 content-tidy nothing = tt
 content-tidy (run c e o n r) = (characters-some c e, characters-legal c, n, content-tidy r)
-content-tidy (element n k r) = (start-written n, content-tidy k, content-tidy r)
-content-tidy (lone n r) = (start-written n, tt, content-tidy r)
+content-tidy (element n k r) = (n, content-tidy k, content-tidy r)
+content-tidy (lone n r) = (n, tt, content-tidy r)
 content-tidy (times t n k r) = (t, n, content-tidy k, content-tidy r)
 
 pub spelled-tidy : {a : Bool} {s : Bytes} {f : Forest} → Spells a s f → Tidy a f × Root f
@@ -98,7 +97,7 @@ unfolding write
 write-content a end t = nothing
 write-content a (text b r) t =
     run (escape-characters b t.1) (escape-some b t.0) (escape-clear b 0).no t.2 (write-content a r t.3)
-write-content a (elem n k r) t = element (written_start t.0) (write-content a k t.1) (write-content a r t.2)
+write-content a (elem n k r) t = element t.0 (write-content a k t.1) (write-content a r t.2)
 write-content a (stamp u k r) t = times t.0 t.1 (write-content a k t.2) (write-content a r t.3)
 
 pub write-spells : (a : Bool) (f : Forest) → Tidy a f → Root f → Spells a (write f) f

@@ -4,7 +4,7 @@ use Prim.Native.Char.{code}
 use Rattle.xml.specs.Bytes.{Bytes}
 use Rattle.xml.specs.Forest.{Forest}
 use Rattle.xml.specs.Read.{Stack, whole, broken, step, start_tag, go, read}
-use Rattle.xml.specs.Tape.{Tape, size, attrs_in}
+use Rattle.xml.specs.Tape.{Tape, size}
 use Rattle.xml.specs.Held.{Held}
 use Rattle.xml.specs.declared.Step.{Step}
 use Rattle.xml.specs.declared.Step.TheVariants.{Go, Bad, Full}
@@ -53,9 +53,13 @@ pub record Opening (a : Bool) (src : Bytes) (cells : List ℕ) (at count top : �
   pub here : at < length src
   pub starts : step a reading.stack reading.forest (drop at src) ≡ start_tag a reading.stack reading.forest (drop (at + 1) src)
 
--- the tape has less than a cell a byte; and whatever forest the text has, it has more nodes and attributes than fit
+-- the cells from node n on are as they were
+abbrev pub Untouched : List ℕ → List ℕ → ℕ → Type 0
+Untouched before cells n = (i : ℕ) → 2 * n ≤ i → get_or cells i 0 ≡ get_or before i 0
+
+-- the tape has less than a cell a byte; and whatever forest the text has, it has more nodes than fit
 abbrev pub Overfull : Bool → Bytes → List ℕ → Type 0
-Overfull a src cells = (length cells < length src) × ((f : Forest) → read a src ≡ whole f → length cells < 2 * size f + attrs_in f)
+Overfull a src cells = (length cells < length src) × ((f : Forest) → read a src ≡ whole f → length cells < 2 * size f)
 
 -- the two cells of a new node were written, and the reader goes on at `at` with `top` open; or there is no room for them
 pub record Noted (before : List ℕ) (count head next at top : ℕ) (cells : List ℕ) (r : Step) : Type 0 where
@@ -63,26 +67,28 @@ pub record Noted (before : List ℕ) (count head next at top : ℕ) (cells : Lis
   pub over : length before < 2 * count + 2 → (r ≡ Full) × (cells ≡ before)
 
 -- a step went on
-pub record Went (a : Bool) (src : Bytes) (at count : ℕ) (cells : List ℕ) (p n top : ℕ) : Type 0 where
+pub record Went (a : Bool) (src : Bytes) (before : List ℕ) (at count : ℕ) (cells : List ℕ) (p n top : ℕ) : Type 0 where
   pub reading : Reading a src cells p n top
   pub later : at < p
   pub more : count ≤ n
+  pub untouched : Untouched before cells n
 
 -- what a step from `at` and `count` says
-abbrev pub Stepped : Bool → Bytes → ℕ → ℕ → List ℕ → Step → Type 0
-Stepped a src at count cells (Go p n top) = Went a src at count cells p n top
-Stepped a src at count cells (Bad p) = read a src ≡ broken p
-Stepped a src at count cells Full = Overfull a src cells
+abbrev pub Stepped : Bool → Bytes → List ℕ → ℕ → ℕ → List ℕ → Step → Type 0
+Stepped a src before at count cells (Go p n top) = Went a src before at count cells p n top
+Stepped a src before at count cells (Bad p) = read a src ≡ broken p
+Stepped a src before at count cells Full = Overfull a src cells
 
--- the text was read: its forest stands on the tape
-pub record Filled (a : Bool) (src : Bytes) (cells : List ℕ) (n : ℕ) : Type 0 where
+-- the text was read: its forest stands on the tape, and nothing else has changed
+pub record Filled (a : Bool) (src : Bytes) (before cells : List ℕ) (n : ℕ) : Type 0 where
   pub forest : Forest
   pub is : read a src ≡ whole forest
   pub tape : Tape src cells 0 n forest
   pub count : n ≡ size forest
+  pub untouched : Untouched before cells n
 
 -- what the reader answers
-abbrev pub Replied : Bool → Bytes → List ℕ → Reply → Type 0
-Replied a src cells (Done n) = Filled a src cells n
-Replied a src cells (Wrong p) = read a src ≡ broken p
-Replied a src cells TooShort = Overfull a src cells
+abbrev pub Replied : Bool → Bytes → List ℕ → List ℕ → Reply → Type 0
+Replied a src before cells (Done n) = Filled a src before cells n
+Replied a src before cells (Wrong p) = read a src ≡ broken p
+Replied a src before cells TooShort = Overfull a src cells

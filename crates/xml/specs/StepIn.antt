@@ -5,12 +5,11 @@ use Prim.Native.Char.{code}
 use Rattle.std.proofs.lemmas.Bool.{eqb-false}
 use Rattle.xml.specs.Bytes.{Bytes, bytes, is_white}
 use Rattle.xml.specs.Forest.{Forest}
-use Rattle.xml.specs.Read.{common, times_len, scan, tag_len, Tag, tag_name, Stack, outer, inside, Move, move, wrong, is_end, start_of, start_by, start_tag, end_of, characters, step}
+use Rattle.xml.specs.Read.{common, name_len, times_len, scan, Tag, tag_name, Stack, outer, inside, Move, move, wrong, is_end, start_of, end_of, characters, step}
 use Rattle.xml.specs.declared.Run.{Run}
 use Rattle.xml.specs.declared.Run.TheVariants.{Upto, Stop}
-use Rattle.xml.specs.ScanLaws.{times_len-fits, common-fits}
-use Rattle.xml.specs.TextLaws.{place, RunIn, scan-range}
-use Rattle.xml.specs.TagLaws.{tag_len-range}
+use Rattle.xml.specs.ScanLaws.{name_len-fits, times_len-fits, common-fits}
+use Rattle.xml.specs.TextLaws.{RunIn, scan-range}
 use Rattle.xml.specs.StepLaws.{in-range, StartCase, none, opens, lone, slash, times, bad, start-case, tag-none, tag_open, tag-bad, tag-times, tag-slash, tag-empty, times-bad, times-good, times-end-bad, times-end-good, step-chars, chars-upto, chars-stop, end-good, end-bad, end_short, step_start, step_end, out-white, out-other, out-second, out-start}
 use Rattle.xml.specs.TimedTags.{is-timed, times_tag, times_close}
 
@@ -71,13 +70,6 @@ start-in a st f s n l = at (start-case a s n)
         subst (In (length s)) (sym (tag-times a st f s n z b d t)) (subst (λ (k : ℕ). In k (times_tag st f (drop 1 s))) m (times-in st f (drop 1 s)))
     at (bad z b d t) = subst (In (length s)) (sym (tag-bad a st f s n z b d t)) (omega arith)
 
-tag_in : (a : Bool) (st : Stack) (f : Forest) (s : Bytes) → In (length s) (start_tag a st f s)
-tag_in a st f s = at (tag_len a s) (tag_len-range a s).1
-  where
-    at : (r : Run) → place r ≤ length s → In (length s) (start_by a st f s r)
-    at (Upto n) l = start-in a st f s n l
-    at (Stop k) l = omega arith
-
 end-in : (o : Tag) (g : Forest) (st : Stack) (f : Forest) (s : Bytes) (m : ℕ) → m ≤ length s → In (suc (length s)) (end_of o g st f s m)
 end-in o g st f s m l = at (eqb m (length (tag_name o))) refl (eqb (get_or s m 0) (code ">")) refl
   where
@@ -97,12 +89,12 @@ chars-in st f b s (Stop k) e =
     subst (In (length s)) (sym (chars-stop st f (b ∷ s) k e)) (omega arith)
 
 tags-in : (a : Bool) (o : Tag) (g : Forest) (st : Stack) (f : Forest) (b : ℕ) (s : Bytes) → b ≡ code "<" → In (length s) (step a (inside o g st) f (b ∷ s))
-tags-in a o g st f b [] e = subst (In 0) (sym (step_start a o g st f b [] e (λ x. eqb-false 0 (code "/") refl x))) (tag_in a (inside o g st) f [])
+tags-in a o g st f b [] e = subst (In 0) (sym (step_start a o g st f b [] e (λ x. eqb-false 0 (code "/") refl x))) (start-in a (inside o g st) f [] (name_len []) (name_len-fits []))
 tags-in a o g st f b (d ∷ u) e = at (eqb d (code "/")) refl
   where
     at : (x : Bool) → eqb d (code "/") ≡ x → In (suc (length u)) (step a (inside o g st) f (b ∷ d ∷ u))
     at true x = subst (In (suc (length u))) (sym (step_end a o g st f b (d ∷ u) e (eqb-true d (code "/") x))) (end-in o g st f u (common (tag_name o) u) (common-fits (tag_name o) u))
-    at false x = subst (In (suc (length u))) (sym (step_start a o g st f b (d ∷ u) e (eqb-false d (code "/") x))) (tag_in a (inside o g st) f (d ∷ u))
+    at false x = subst (In (suc (length u))) (sym (step_start a o g st f b (d ∷ u) e (eqb-false d (code "/") x))) (start-in a (inside o g st) f (d ∷ u) (name_len (d ∷ u)) (name_len-fits (d ∷ u)))
 
 pub step_in_lem : (a : Bool) (st : Stack) (f : Forest) (b : ℕ) (s : Bytes) → In (length s) (step a st f (b ∷ s))
 step_in_lem a outer f b s = at (is_white b) refl (eqb b (code "<")) refl (is_end f) refl
@@ -111,7 +103,7 @@ step_in_lem a outer f b s = at (is_white b) refl (eqb b (code "<")) refl (is_end
     at true x y p z q = subst (In (length s)) (sym (out-white a f b s x)) (omega arith)
     at false x false p z q = subst (In (length s)) (sym (out-other a f b s x (eqb-false b (code "<") p))) (omega arith)
     at false x true p false q = subst (In (length s)) (sym (out-second a f b s x (eqb-true b (code "<") p) q)) (omega arith)
-    at false x true p true q = subst (In (length s)) (sym (out-start a f b s x (eqb-true b (code "<") p) q)) (tag_in a outer f s)
+    at false x true p true q = subst (In (length s)) (sym (out-start a f b s x (eqb-true b (code "<") p) q)) (start-in a outer f s (name_len s) (name_len-fits s))
 step_in_lem a (inside o g st) f b s = at (eqb b (code "<")) refl
   where
     at : (x : Bool) → eqb b (code "<") ≡ x → In (length s) (step a (inside o g st) f (b ∷ s))

@@ -5,7 +5,7 @@ use Prim.Native.Char.{code}
 use borrow.Author.Tests.{eq-eqb, ne_eqb, eqb-true, eqb-false}
 use Rattle.xml.specs.Bytes.{Bytes, bytes, same, is_white}
 use Rattle.xml.specs.Forest.{Forest, end, elem, text, join}
-use Rattle.xml.specs.Read.{common, times_len, unescape, scan, tag_len, tag_of, Tag, named, timed, tag_name, tag_node, Stack, outer, inside, move, wrong, whole, broken, is_end, times_end, times_of, start_of, start_by, start_tag, end_of, end_tag, characters, step, finish, go, read}
+use Rattle.xml.specs.Read.{common, times_len, unescape, scan, Tag, named, timed, tag_name, tag_node, Stack, outer, inside, move, wrong, whole, broken, is_end, times_end, times_of, start_of, start_tag, end_of, end_tag, characters, step, finish, go, read}
 use Rattle.xml.specs.declared.Run.TheVariants.{Upto, Stop}
 
 pub go-skip : (a : Bool) (st : Stack) (f : Forest) (at k : ℕ) (s : Bytes) → k ≤ length s → go a st f at k s ≡ go a st f (at + k) 0 (drop k s)
@@ -64,19 +64,12 @@ chars-stop st f s k e = rw (e, characters)
 
 -- ---- a start tag
 
--- by how long what stands in it is
-pub tag-upto : (a : Bool) (st : Stack) (f : Forest) (s : Bytes) (n : ℕ) → tag_len a s ≡ Upto n → start_tag a st f s ≡ start_of a st f s n
-tag-upto a st f s n e = ap (start_by a st f s) e
-
-pub tag-stop : (a : Bool) (st : Stack) (f : Forest) (s : Bytes) (k : ℕ) → tag_len a s ≡ Stop k → start_tag a st f s ≡ wrong (1 + k)
-tag-stop a st f s k e = ap (start_by a st f s) e
-
 module _ (a : Bool) (st : Stack) (f : Forest) (s : Bytes) (n : ℕ) where
   pub tag-none : n ≡ 0 → start_of a st f s n ≡ wrong 1
   unfolding start_of
   tag-none z = rw (eq-eqb n 0 z, start_of)
 
-  pub tag_open : (n ≡ 0 → ⊥) → get_or s n 0 ≡ code ">" → start_of a st f s n ≡ move (inside (named (tag_of (take n s))) f st) end (1 + n)
+  pub tag_open : (n ≡ 0 → ⊥) → get_or s n 0 ≡ code ">" → start_of a st f s n ≡ move (inside (named (take n s)) f st) end (1 + n)
   unfolding start_of
   tag_open z b = rw (ne_eqb n 0 z, eq-eqb (get_or s n 0) (code ">") b, start_of)
 
@@ -95,7 +88,7 @@ module _ (a : Bool) (st : Stack) (f : Forest) (s : Bytes) (n : ℕ) where
   tag-slash z b d g = rw (ne_eqb n 0 z, ne_eqb (get_or s n 0) (code ">") b, eq-eqb (get_or s n 0) (code "/") d, ne_eqb (get_or s (1 + n) 0) (code ">") g, start_of)
 
   pub tag-empty : (n ≡ 0 → ⊥) → (get_or s n 0 ≡ code ">" → ⊥) → get_or s n 0 ≡ code "/" → get_or s (1 + n) 0 ≡ code ">" →
-      start_of a st f s n ≡ move st (join f (elem (tag_of (take n s)) end end)) (2 + n)
+      start_of a st f s n ≡ move st (join f (elem (take n s) end end)) (2 + n)
   unfolding start_of
   tag-empty z b d g = rw (ne_eqb n 0 z, ne_eqb (get_or s n 0) (code ">") b, eq-eqb (get_or s n 0) (code "/") d, eq-eqb (get_or s (1 + n) 0) (code ">") g, start_of)
 

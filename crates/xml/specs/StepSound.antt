@@ -1,27 +1,25 @@
 -- Each step of reading keeps the invariant: what has been read spells what is open.
 use Prim.Native.Nat.{ℕ, zero, suc, ◌+◌, ◌-◌, ◌≤◌, ◌<◌}
 use Prim.Native.Char.{code}
-use Rattle.std.proofs.Common.{one-add, ◌∙◌, subst, append_assoc, eqb-true, take-append-drop, drop-cons}
+use Rattle.std.proofs.Common.{one-add, ◌∙◌, append_assoc, eqb-true, take-append-drop, drop-cons}
 use native.Mathlib.Omega.{arith}
-use Rattle.std.specs.Prelude.{◌≡◌, Bool, true, false, ◌&&◌, [], ◌∷◌, ◌++◌, eqb}
-use Rattle.std.proofs.Math.Path.{refl, ap, sym}
+use Rattle.std.specs.Prelude.{◌≡◌, Bool, false, ◌&&◌, [], ◌∷◌, ◌++◌, eqb}
+use Rattle.std.proofs.Math.Path.{refl, ap, sym, subst}
+use Rattle.std.proofs.Math.Bool.{true}
 use Rattle.std.proofs.lemmas.Bool.{eqb-false}
 use Rattle.std.proofs.Math.ListN.{length, take, drop, get_or, length-append}
 use Rattle.std.proofs.Math.Seq.{length-take-le, split_at, drop-drop}
-use Rattle.xml.specs.Bytes.{Bytes, bytes, all, same, is_times}
+use Rattle.xml.specs.Bytes.{Bytes, bytes, all, same, is_name, is_times}
 use Rattle.xml.specs.Forest.{Forest, end, elem, text, join}
 use Rattle.xml.specs.Grammar.{nothing, lone}
-use Rattle.xml.specs.Read.{common, times_len, tag_len, tag_of, named, timed, Stack, inside, Move, move, wrong, times_end, times_of, start_of, start_by, start_tag, step}
-use Rattle.xml.specs.declared.Run.{Run}
-use Rattle.xml.specs.declared.Run.TheVariants.{Upto, Stop}
+use Rattle.xml.specs.Read.{common, name_len, times_len, named, timed, Stack, inside, Move, move, wrong, times_end, times_of, start_of, start_tag, step}
 use Rattle.xml.specs.Truth.{both_true}
 use Rattle.xml.specs.BytesLaws.{same-is}
-use Rattle.xml.specs.Names.{times-taken}
-use Rattle.xml.specs.TagLaws.{Tag, start-means, tag_len-sound}
+use Rattle.xml.specs.Names.{name-taken, times-taken}
 use Rattle.xml.specs.ScanLaws.{begins}
 use Rattle.xml.specs.StepLaws.{in-range}
 use Rattle.xml.specs.ScanLaws.{times_len-fits}
-use Rattle.xml.specs.Opened.{by_name, by-times, Fresh, Opened, Free, opened-node, opened-start, free-node, free-end}
+use Rattle.xml.specs.Opened.{opening, Fresh, Opened, Free, opened-node, opened-start, free-node, free-end}
 
 -- from p read, with t to come, to a state with k bytes of s to skip
 pub record Stepped (a : Bool) (p t s : Bytes) (st : Stack) (f : Forest) (k : ℕ) : Type 0 where
@@ -54,25 +52,23 @@ module _ (a : Bool) (st : Stack) (f : Forest) (p s : Bytes) (o : Opened a st p f
   abbrev Went : Move → Type 0
   Went = SteppedTo a p (code "<" ∷ s) s
 
-  named-open : (n : ℕ) → Tag a (take n s) → get_or s n 0 ≡ code ">" → Stepped a p (code "<" ∷ s) s (inside (named (tag_of (take n s))) f st) end (1 + n)
+  named-open : (n : ℕ) → is_name (take n s) ≡ true → get_or s n 0 ≡ code ">" → Stepped a p (code "<" ∷ s) s (inside (named (take n s)) f st) end (1 + n)
   unfolding bytes
-  named-open n tag e =
+  named-open n name e =
       let h : n < length s = in-range s n 61 e in
       let i : s ≡ take n s ++ code ">" ∷ drop (suc n) s = split_at s n 0 h ∙ ap (λ (x : ℕ). take n s ++ x ∷ drop (suc n) s) e in
-      let v = bytes "<" ++ take n s ++ bytes ">" in
-      rw (start-means tag.start)
-      (record {
+      record {
         fits = omega arith;
-        now = p ++ v;
-        is = cut p v (code "<" ∷ s) (drop (suc n) s) (drop (1 + n) s) (ap (code "<" ∷◌) i ∙ simp append_assoc) (rw one-add);
-        opened = opened-start o fresh (by_name tag.start);
-        free = free-end (inside (named tag.tag) f st) (drop (1 + n) s);
-      })
+        now = p ++ opening (named (take n s));
+        is = cut p (opening (named (take n s))) (code "<" ∷ s) (drop (suc n) s) (drop (1 + n) s) (ap (code "<" ∷◌) i ∙ simp append_assoc) (rw one-add);
+        opened = opened-start (named (take n s)) o fresh name;
+        free = free-end (inside (named (take n s)) f st) (drop (1 + n) s);
+      }
 
-  named-lone : (n : ℕ) → Tag a (take n s) → get_or s n 0 ≡ code "/" → get_or s (1 + n) 0 ≡ code ">" →
-      Stepped a p (code "<" ∷ s) s st (join f (elem (tag_of (take n s)) end end)) (2 + n)
+  named-lone : (n : ℕ) → is_name (take n s) ≡ true → get_or s n 0 ≡ code "/" → get_or s (1 + n) 0 ≡ code ">" →
+      Stepped a p (code "<" ∷ s) s st (join f (elem (take n s) end end)) (2 + n)
   unfolding bytes
-  named-lone n tag e g =
+  named-lone n name e g =
       let h : 1 + n < length s = in-range s (1 + n) 61 g in
       let h' : suc n < length s = omega arith in
       let h'' : n < length s = omega arith in
@@ -83,14 +79,13 @@ module _ (a : Bool) (st : Stack) (f : Forest) (p s : Bytes) (o : Opened a st p f
       split_at s n 0 h'' ∙ ap (λ (y : ℕ). x ++ y ∷ drop (suc n) s) e
       ∙ ap (λ (y : Bytes). x ++ code "/" ∷ y) (drop-cons s (suc n) 0 h' ∙ ap (λ (y : ℕ). y ∷ drop (suc (suc n)) s) (ap (λ (y : ℕ). get_or s y 0) (sym j) ∙ g))
       in
-      rw (start-means tag.start)
-      (record {
+      record {
         fits = omega arith;
         now = p ++ (bytes "<" ++ x ++ bytes "/>" ++ []);
         is = cut p (bytes "<" ++ x ++ bytes "/>" ++ []) (code "<" ∷ s) (drop (suc (suc n)) s) (drop (2 + n) s) (ap (code "<" ∷◌) i ∙ simp append_assoc) (ap (λ (y : ℕ). drop y s) l);
-        opened = opened-node o fresh (lone tag.start nothing) refl;
-        free = free-node st f (elem tag.tag end end) (drop (2 + n) s) refl;
-      })
+        opened = opened-node o fresh (lone name nothing) refl;
+        free = free-node st f (elem x end end) (drop (2 + n) s) refl;
+      }
 
   timed-open : (n : ℕ) → a ≡ true → s ≡ code "T" ∷ drop 1 s → common (bytes " t=\"") (drop 1 s) ≡ 4 → n ≡ times_len (drop 4 (drop 1 s)) →
       common (bytes "\">") (drop n (drop 4 (drop 1 s))) ≡ 2 → Stepped a p (code "<" ∷ s) s (inside (timed (take n (drop 4 (drop 1 s)))) f st) end (7 + n)
@@ -109,9 +104,9 @@ module _ (a : Bool) (st : Stack) (f : Forest) (p s : Bytes) (o : Opened a st p f
       let y' : y ≡ drop (7 + n) s = ap (λ (z : Bytes). drop 2 (drop n z)) (drop-drop 4 1 s) ∙ ap (drop 2) (drop-drop n 5 s) ∙ drop-drop 2 (5 + n) s ∙ ap (λ (z : ℕ). drop z s) m in
       record {
         fits = omega (arith, ap length j, length-append x (code "\"" ∷ code ">" ∷ y), length-take-le n w q);
-        now = p ++ (bytes "<T t=\"" ++ x ++ bytes "\">");
-        is = cut p (bytes "<T t=\"" ++ x ++ bytes "\">") (code "<" ∷ s) y (drop (7 + n) s) (ap (code "<" ∷◌) j ∙ simp append_assoc) y';
-        opened = opened-start o fresh (by-times h (subst (λ (z : ℕ). all is_times (take z w) ≡ true) (sym l) (times-taken w)));
+        now = p ++ opening (timed x);
+        is = cut p (opening (timed x)) (code "<" ∷ s) y (drop (7 + n) s) (ap (code "<" ∷◌) j ∙ simp append_assoc) y';
+        opened = opened-start (timed x) o fresh (h, subst (λ (z : ℕ). all is_times (take z w) ≡ true) (sym l) (times-taken w));
         free = free-end (inside (timed x) f st) (drop (7 + n) s);
       }
 
@@ -127,22 +122,16 @@ module _ (a : Bool) (st : Stack) (f : Forest) (p s : Bytes) (o : Opened a st p f
       (λ y. tt))
       (λ x. tt)
 
-  tag-sound : (n : ℕ) → tag_len a s ≡ Upto n → Went (start_of a st f s n)
+  pub start-sound : Went (start_tag a st f s)
   unfolding start_of bytes
-  tag-sound n e =
+  start-sound =
+      let n = name_len s in
       pick Went (eqb n 0) _ _ (λ x. tt) (λ x.
-      let tag = tag_len-sound a s n e (eqb-false n 0 x) in
-      pick Went (eqb (get_or s n 0) (code ">")) _ _ (λ y. named-open n tag (eqb-true (get_or s n 0) (code ">") y)) (λ y.
+      let name : is_name (take n s) ≡ true = name-taken s (eqb-false n 0 x) in
+      pick Went (eqb (get_or s n 0) (code ">")) _ _ (λ y. named-open n name (eqb-true (get_or s n 0) (code ">") y)) (λ y.
       pick Went (eqb (get_or s n 0) (code "/")) _ _
       (λ z. pick Went (eqb (get_or s (1 + n) 0) (code ">")) _ _
-      (λ u. named-lone n tag (eqb-true (get_or s n 0) (code "/") z) (eqb-true (get_or s (1 + n) 0) (code ">") u)) (λ u. tt))
+      (λ u. named-lone n name (eqb-true (get_or s n 0) (code "/") z) (eqb-true (get_or s (1 + n) 0) (code ">") u)) (λ u. tt))
       (λ z. pick Went (a && same (take n s) (bytes "T")) _ _
       (λ u. let b = both_true a (same (take n s) (bytes "T")) u in times-sound b.0 (first_taken_lem (code "T") n s (same-is (take n s) (bytes "T") b.1)))
       (λ u. tt))))
-
-  pub start-sound : Went (start_tag a st f s)
-  start-sound = at (tag_len a s) refl
-    where
-      at : (r : Run) → tag_len a s ≡ r → Went (start_by a st f s r)
-      at (Upto n) e = tag-sound n e
-      at (Stop k) e = tt

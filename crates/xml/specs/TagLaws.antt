@@ -1,15 +1,11 @@
 -- What stands in a start tag: the tag that it means, how long it is, and that a tag as it is written spells itself.
-use Rattle.std.specs.Prelude.{ℕ, zero, suc, ◌+◌, ◌*◌, ◌≤◌, ◌<◌, ◌≡◌, Bool, not, ◌&&◌, ◌||◌, eqb, length, take, drop, get_or}
+use Rattle.std.specs.Prelude.{ℕ, zero, suc, ◌+◌, ◌*◌, ◌≤◌, ◌<◌, ◌≡◌, refl, Bool, true, false, not, ◌&&◌, ◌||◌, List, [], ◌∷◌, ◌++◌, map, eqb, length, take, drop, get_or}
 use Prim.Native.Char.{code}
-use Rattle.std.proofs.Common.{add-zero, le_of_suc-le-suc, arith, ap₂, ◌∙◌, subst, eq-eqb, ne_eqb, eqb-true, length-append, length-drop, get_or-append-add, take-add}
-use Rattle.std.proofs.Math.Path.{refl, ap, sym}
-use Rattle.std.proofs.Math.Bool.{true, false}
-use mathlib.Core.List.{List, [], ◌∷◌, ◌++◌, append_assoc, append-nil, map}
+use Rattle.std.proofs.Common.{add-zero, le_of_suc-le-suc, arith, ap, ap₂, sym, ◌∙◌, subst, append_assoc, append-nil, eq-eqb, ne_eqb, eqb-true, length-append, length-drop, get_or-append-add, take-add}
 use Rattle.std.proofs.lemmas.Bool.{eqb-false}
-use Rattle.std.proofs.lemmas.List.{length-map}
 use Rattle.std.proofs.Math.Seq.{take-append_seam, drop-append_seam, drop-append-add}
 use Rattle.xml.specs.Bytes.{Bytes, bytes, any, all, same, is_legal, is_character, is_start, is_name_byte, is_name, among, bytes_compute}
-use Rattle.xml.specs.Tags.{Attr, attr, attr_name, escape_value, attr_text, less, insert, sort, tag_text, name_of, until, name_len_in, value_len_in, parts, count_but, attr_nodes, tag_nodes, is_quote, in_value, is_inline, Fine, Written, named_t, tags_compute}
+use Rattle.xml.specs.Tags.{Attr, attr, attr_name, escape_value, attr_text, less, insert, sort, tag_text, name_of, until, name_len_in, value_len_in, parts, is_quote, in_value, is_inline, Fine, Written, named_t, tags_compute}
 use Rattle.xml.specs.Tags.{bare as bare-tag, attributed as attributed-tag}
 use Rattle.xml.specs.Grammar.{Entity, lt, gt, amp, quot, apos, Characters, kept, joined, turned, entity, Attributes, none, more, StartTag, bare, attributed}
 use Rattle.xml.specs.Grammar.{none as no-characters}
@@ -51,7 +47,7 @@ pub equals-name : is_name_byte (code "=") ≡ false
 unfolding bytes_compute
 equals-name = refl
 
-pub space-name : is_name_byte (code " ") ≡ false
+space-name : is_name_byte (code " ") ≡ false
 unfolding bytes_compute
 space-name = refl
 
@@ -225,16 +221,6 @@ unfolding tag_text
 start-long (bare {n = n} e) = omega (arith, name-short n e)
 start-long (attributed {n = n} {u = u} {l = l} e h r) =
     omega (arith, name-short n e, length-append n u, length-append n (attr_text (sort l)), sort-long l, attributes-long r)
-
--- an attribute takes five bytes at least
-attributes-few : {used : List Bytes} {u : Bytes} {l : List Attr} → Attributes used u l → 5 * length l ≤ length u
-attributes-few none = omega arith
-attributes-few {used} (more {n = n} {s = s} {u = u} q new quote c within r) =
-    let i : length n ≡ 0 → ⊥ = name-some n (new-name used n new) in
-    omega (arith, i, more-long n s u q, attributes-few r)
-
-pub parts-count : {used : List Bytes} {u : Bytes} {l : List Attr} (n : Bytes) → is_name n ≡ true → Attributes used u l → length (parts 0 (n ++ u)) ≡ length l
-parts-count {u = u} n e r = ap length (parts-name n u (name-bytes n e)) ∙ sym (length-map (parts 0 u) means) ∙ ap length (parts-mean r)
 
 -- a tag that is a name alone is spelled so
 none-long : (l : List Attr) → length (attr_text l) ≡ 0 → l ≡ []
@@ -436,7 +422,7 @@ abbrev pub Below : Attr → List Attr → Type 0
 Below x [] = Unit {0}
 Below x (y ∷ l) = less (attr_name y) (attr_name x) ≡ false
 
-abbrev pub Ascending : List Attr → Type 0
+abbrev Ascending : List Attr → Type 0
 Ascending [] = Unit {0}
 Ascending (x ∷ l) = Below x l × Ascending l
 
@@ -464,12 +450,12 @@ insert-ascending x (y ∷ l) h = at (less (attr_name y) (attr_name x)) refl (ins
     at true i ih = rw (insert-later x y l i) (below-insert y x l h.0 (less-asym (attr_name y) (attr_name x) i), ih)
     at false i ih = rw (insert-first x (y ∷ l) i) (i, h)
 
-pub sort-ascending : (l : List Attr) → Ascending (sort l)
+sort-ascending : (l : List Attr) → Ascending (sort l)
 unfolding sort
 sort-ascending [] = tt
 sort-ascending (x ∷ l) = insert-ascending x (sort l) (sort-ascending l)
 
-pub ascending-sort : (l : List Attr) → Ascending l → sort l ≡ l
+ascending-sort : (l : List Attr) → Ascending l → sort l ≡ l
 unfolding sort
 ascending-sort [] h = refl
 ascending-sort (x ∷ l) h = ap (insert x) (ascending-sort l h.1) ∙ insert-first x l h.0
@@ -538,136 +524,3 @@ pub start-written : {a : Bool} {w n t : Bytes} → StartTag a w n t → Written 
 unfolding tag_text
 start-written (bare e) = bare-tag e
 start-written (attributed {n = n} {l = l} e p r) = attributed-tag n (sort l) e p (sort-fine [] l (attributes-fine r)) (sort_sorted l)
-
--- ---- what a tag has in common with what spells it
--- a measure of attributes that does not go by their order: of what they mean
-module _ {A : Type 0} (measure : List Attr → A) (add : Attr → A → A) (first : (x : Attr) (l : List Attr) → measure (x ∷ l) ≡ add x (measure l))
-    (swap : (x y : Attr) (m : A) → add x (add y m) ≡ add y (add x m)) where
-  kept-insert : (x : Attr) (l : List Attr) → measure (insert x l) ≡ add x (measure l)
-  unfolding insert
-  kept-insert x [] = first x []
-  kept-insert x (y ∷ l) = at (less (attr_name y) (attr_name x)) (kept-insert x l)
-    where
-      at : (t : Bool) → measure (insert x l) ≡ add x (measure l) → measure (elim t [ true ↦ y ∷ insert x l | false ↦ x ∷ y ∷ l ]) ≡ add x (measure (y ∷ l))
-      at true h = first y (insert x l) ∙ ap (add y) h ∙ swap y x (measure l) ∙ ap (add x) (sym (first y l))
-      at false h = first x (y ∷ l)
-
-  kept-sort : (l : List Attr) → measure (sort l) ≡ measure l
-  unfolding sort
-  kept-sort [] = refl
-  kept-sort (x ∷ l) = kept-insert x (sort l) ∙ ap (add x) (kept-sort l) ∙ sym (first x l)
-
-  kept-parts : {used : List Bytes} {u : Bytes} {l : List Attr} (n : Bytes) → is_name n ≡ true → Attributes used u l → measure (map means (parts 0 (n ++ u))) ≡ measure l
-  kept-parts {u = u} n e r = ap (λ (k : List Attr). measure (map means k)) (parts-name n u (name-bytes n e)) ∙ ap measure (parts-mean r)
-
-  pub start-meant : {a : Bool} {w n t : Bytes} → StartTag a w n t → measure (map means (parts 0 t)) ≡ measure (map means (parts 0 w))
-  unfolding tag_text
-  start-meant (bare e) = refl
-  start-meant (attributed {n = n} {l = l} e p r) =
-      kept-parts n e (fine-attributes [] (sort l) (sort-fine [] l (attributes-fine r))) ∙ kept-sort l ∙ sym (kept-parts n e r)
-
-  -- and of what they are, where it does not go by their values either
-  module _ (named : (x : Attr) (m : A) → add (means x) m ≡ add x m) where
-    kept-means : (l : List Attr) → measure (map means l) ≡ measure l
-    kept-means [] = refl
-    kept-means (x ∷ l) = first (means x) (map means l) ∙ named x (measure (map means l)) ∙ ap (add x) (kept-means l) ∙ sym (first x l)
-
-    pub start-kept : {a : Bool} {w n t : Bytes} → StartTag a w n t → measure (parts 0 t) ≡ measure (parts 0 w)
-    start-kept {w = w} {t = t} s = sym (kept-means (parts 0 t)) ∙ start-meant s ∙ kept-means (parts 0 w)
-
--- it has as many attributes
-pub start-count : {a : Bool} {w n t : Bytes} → StartTag a w n t → length (parts 0 t) ≡ length (parts 0 w)
-start-count s = start-kept length (λ x m. suc m) (λ x l. refl) (λ x y m. refl) (λ x m. refl) s
-
--- and counts for as many nodes
-means-name : (x : Attr) → attr_name (means x) ≡ attr_name x
-unfolding means attr_name
-means-name (attr n v) = refl
-
-start-others : {a : Bool} {w n t : Bytes} (m : Bytes) → StartTag a w n t → count_but m (parts 0 t) ≡ count_but m (parts 0 w)
-unfolding count_but
-start-others m s =
-    start-kept (count_but m) (λ x k. elim (same m (attr_name x)) as (λ _. ℕ) [ true ↦ 0 | false ↦ 1 ] + k) (λ x l. refl) (λ x y k. omega arith)
-    (λ x k. ap (λ (z : Bytes). elim (same m z) as (λ _. ℕ) [ true ↦ 0 | false ↦ 1 ] + k) (means-name x)) s
-
-same_name : {a : Bool} {w n t : Bytes} → StartTag a w n t → name_of t ≡ name_of w
-same_name s = start-name s ∙ sym (start-raw s)
-
-pub start-nodes : {a : Bool} {w n t : Bytes} → StartTag a w n t → tag_nodes t ≡ tag_nodes w
-unfolding tag_nodes attr_nodes
-start-nodes {w = w} {t = t} s =
-    ap (λ (z : Bytes). of (same z (bytes "T")) (count_but (bytes "t") (parts 0 t)) (length (parts 0 t))) (same_name s)
-    ∙ ap₂ (of (same (name_of w) (bytes "T"))) (start-others (bytes "t") s) (start-count s)
-  where
-    of : Bool → ℕ → ℕ → ℕ
-    of b x y = elim b as (λ _. ℕ) [ true ↦ 0 | false ↦ 1 ] + elim b as (λ _. ℕ) [ true ↦ x | false ↦ y ]
-
--- it has the name T, or an attribute with that name, or none
-pub start-named : {a : Bool} {w n t : Bytes} → StartTag a w n t → named_t t ≡ named_t w
-unfolding named_t any
-start-named s =
-    ap₂ (λ (z : Bytes) (b : Bool). same z (bytes "T") || b) (same_name s)
-    (start-kept (any (λ x. same (attr_name x) (bytes "T"))) (λ x b. same (attr_name x) (bytes "T") || b) (λ x l. refl)
-    (λ x y b. or_swap (same (attr_name x) (bytes "T")) (same (attr_name y) (bytes "T")) b) (λ x b. ap (λ (z : Bytes). same z (bytes "T") || b) (means-name x)) s)
-
-raw-attrs : {a : Bool} {w n t : Bytes} → StartTag a w n t → 5 * length (parts 0 w) + length n ≤ length w
-raw-attrs (bare {n = n} e) =
-    let i : length (parts 0 (n ++ [])) ≡ 0 = parts-count n e (none {used = []}) in
-    omega (arith, ap (λ (x : Bytes). length (parts 0 x)) (append-nil n))
-raw-attrs (attributed {n = n} {u = u} e p r) = omega (arith, parts-count n e r, attributes-few r, length-append n u)
-
-pub start-attrs : {a : Bool} {w n t : Bytes} → StartTag a w n t → 5 * length (parts 0 t) + length n ≤ length w
-start-attrs s = omega (arith, start-count s, raw-attrs s)
-
--- each counts for a node at most
-count_most : (t : Bytes) (l : List Attr) → count_but t l ≤ length l
-unfolding count_but
-count_most t [] = omega arith
-count_most t (x ∷ l) = at (same t (attr_name x)) (count_most t l)
-  where
-    at : (b : Bool) → count_but t l ≤ length l → elim b [ true ↦ 0 | false ↦ 1 ] + count_but t l ≤ suc (length l)
-    at true h = omega arith
-    at false h = omega arith
-
-pub tag-counts : (t : Bytes) → tag_nodes t ≤ 1 + length (parts 0 t)
-unfolding tag_nodes attr_nodes
-tag-counts t = at (same (name_of t) (bytes "T"))
-  where
-    at : (b : Bool) → elim b [ true ↦ 0 | false ↦ 1 ] + elim b [ true ↦ count_but (bytes "t") (parts 0 t) | false ↦ length (parts 0 t) ] ≤ 1 + length (parts 0 t)
-    at true = omega (arith, count_most (bytes "t") (parts 0 t))
-    at false = omega arith
-
--- it is a name alone just where what spells it is one
-raw-bare : {a : Bool} {w n t : Bytes} → StartTag a w n t → same w (name_of w) ≡ eqb (length (parts 0 w)) 0
-raw-bare {w = w} {n = n} s =
-    by-test (eqb (length (parts 0 w)) 0)
-    (λ e. ap (same w) (start-raw s ∙ sym (alone s (eqb-true (length (parts 0 w)) 0 e))) ∙ same_self w ∙ sym e)
-    (λ e. not_so (same w (name_of w)) (λ h. omega (arith, ap length (same-is w (name_of w) h), ap length (start-raw s), raw-attrs s, eqb-false (length (parts 0 w)) 0 e)) ∙ sym e)
-  where
-    alone : {a : Bool} {w n t : Bytes} → StartTag a w n t → length (parts 0 w) ≡ 0 → w ≡ n
-    alone (bare e) h = refl
-    alone (attributed {n = n} {l = l} e p r) h = ap (n ++◌) (none-spelled r (no_length l (sym (parts-count n e r) ∙ h))) ∙ append-nil n
-      where
-        no_length : (l : List Attr) → length l ≡ 0 → l ≡ []
-        no_length [] h = refl
-        no_length (x ∷ l) h = absurd (omega arith)
-
-pub start-alone : {a : Bool} {w n t : Bytes} → StartTag a w n t → same t (name_of t) ≡ same w (name_of w)
-start-alone s = raw-bare (written_start (start-written s)) ∙ ap (λ (k : ℕ). eqb k 0) (start-count s) ∙ sym (raw-bare s)
-
--- the same of the tag that the bytes in a start tag mean
-module _ {s : Bytes} (t : Tag false s) where
-  pub tag-name : name_of (tag_of s) ≡ name_of s
-  tag-name = ap name_of (start-means t.start) ∙ same_name t.start
-
-  pub tag-count : length (parts 0 (tag_of s)) ≡ length (parts 0 s)
-  tag-count = ap (λ (x : Bytes). length (parts 0 x)) (start-means t.start) ∙ start-count t.start
-
-  pub tag-nodes : tag_nodes (tag_of s) ≡ tag_nodes s
-  tag-nodes = ap tag_nodes (start-means t.start) ∙ start-nodes t.start
-
-  pub tag-named : named_t (tag_of s) ≡ named_t s
-  tag-named = ap named_t (start-means t.start) ∙ start-named t.start
-
-  pub tag-alone : same (tag_of s) (name_of (tag_of s)) ≡ same s (name_of s)
-  tag-alone = ap (λ (x : Bytes). same x (name_of x)) (start-means t.start) ∙ start-alone t.start

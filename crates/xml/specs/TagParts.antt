@@ -3,31 +3,18 @@ use Rattle.std.specs.Prelude.{ℕ, ◌+◌, Bool, true, false, ◌&&◌, ◌||�
 use Prim.Native.Char.{code}
 use Rattle.std.proofs.Math.Seq.{slice}
 use Rattle.xml.specs.Bytes.{Bytes, keep, same}
-use Rattle.xml.specs.Tags.{Attr, attr, attr_name, escape_value, less, sort, name_of, until, parts, tag_nodes}
-use Rattle.xml.specs.Read.{unescape, tag_of}
+use Rattle.xml.specs.Tags.{Attr, attr, attr_name, escape_value, less, sort, until, parts}
+use Rattle.xml.specs.Read.{unescape}
 use Rattle.xml.specs.TagLaws.{Tag}
 use Rattle.xml.specs.declared.tag.Part.{Part}
-use Rattle.xml.specs.declared.tag.TagSizes.{TagSizes}
-use Rattle.xml.specs.declared.tag.Value.{Value}
 
 -- what stands in a start tag
 abbrev pub IsTag : Bytes → Type 0
 IsTag raw = Tag false raw
 
--- what the bytes between quotes are written as
-abbrev pub quoted : Bytes → Bytes
-quoted raw = escape_value (unescape 0 raw)
-
--- where a value between quotes q ends that begins at a place; and how long it is, written
-abbrev pub value_end : Bytes → ℕ → ℕ → ℕ
-value_end s at q = at + until q (drop at s)
-
-abbrev pub value_at : Bytes → ℕ → ℕ → Value
-value_at s at q = record { end = value_end s at q; bytes = length (quoted (slice at (value_end s at q) s)) }
-
 -- the attribute whose `=` stands at the place e
 abbrev pub part_from : Bytes → ℕ → Part
-part_from s e = record { equals = e; end = value_end s (e + 2) (get_or s (e + 1) 0) }
+part_from s e = record { equals = e; end = e + 2 + until (get_or s (e + 1) 0) (drop (e + 2) s) }
 
 -- the attribute whose space stands at the place i
 unfoldable pub part_at : Bytes → ℕ → Part
@@ -40,9 +27,9 @@ attr_in s i g = attr (slice (i + 1) g.equals s) (slice (g.equals + 2) g.end s)
 abbrev pub attr_at : Bytes → ℕ → Attr
 attr_at s i = attr_in s i (part_at s i)
 
--- what a tag counts for, by its raw bytes
-abbrev pub sizes_of : Bytes → TagSizes
-sizes_of s = record { name = length (name_of s); attributes = length (parts 0 s); nodes = tag_nodes s; bytes = length (tag_of s) }
+-- what the bytes between its quotes are written as
+abbrev pub quoted : Bytes → Bytes
+quoted raw = escape_value (unescape 0 raw)
 
 -- two attributes mean the same
 unfoldable pub alike : Attr → Attr → Bool

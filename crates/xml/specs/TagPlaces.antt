@@ -1,14 +1,14 @@
 -- The attributes of a tag at the places where they stand: each is followed by the next, or by the tag's end.
-use Rattle.std.specs.Prelude.{ℕ, ◌+◌, ◌-◌, ◌≤◌, ◌<◌, ◌≡◌, false, List, [], ◌∷◌, ◌++◌, take}
+use Rattle.std.specs.Prelude.{ℕ, ◌+◌, ◌-◌, ◌≤◌, ◌<◌, ◌≡◌, false, List, [], ◌∷◌, ◌++◌, take, get_or}
 use Prim.Native.Char.{code}
 use Rattle.std.proofs.Common.{add-zero, arith, ◌∙◌, append_assoc, append-nil, length-append, drop-drop, get_or-drop}
 use Rattle.std.proofs.Math.Path.{refl, ap, ap₂, sym, subst}
 use Rattle.std.proofs.Math.Bool.{true}
-use Rattle.std.proofs.Math.ListN.{length, drop, get_or, length-drop}
+use Rattle.std.proofs.Math.ListN.{length, drop, length-drop}
 use Rattle.std.proofs.Math.Seq.{slice, drop-append_seam, drop-length, take-append_seam}
 use Rattle.xml.specs.Bytes.{Bytes, bytes, all, is_name_byte, is_name}
 use Rattle.xml.specs.Tags.{Attr, attr, name_of, until, parts, in_value}
-use Rattle.xml.specs.Grammar.{Characters, Attributes, none, more, StartTag, bare, attributed}
+use Rattle.xml.specs.Grammar.{Attributes, none, more, StartTag, bare, attributed}
 use Rattle.xml.specs.Names.{name-some, name-bytes}
 use Rattle.xml.specs.Fresh.{new-name}
 use Rattle.xml.specs.Attrs.{After, more-text}
@@ -18,13 +18,13 @@ use Rattle.xml.specs.TagParts.{IsTag, part_at, part_from, attr_in}
 use Rattle.xml.specs.declared.tag.Part.{Part}
 
 -- ---- what stands at a place of a text
-pub drop_past : (s : Bytes) (i : ℕ) (x y : Bytes) → drop i s ≡ x ++ y → drop (i + length x) s ≡ y
+drop_past : (s : Bytes) (i : ℕ) (x y : Bytes) → drop i s ≡ x ++ y → drop (i + length x) s ≡ y
 drop_past s i x y e = sym (drop-drop (length x) i s) ∙ ap (drop (length x)) e ∙ drop-append_seam x y
 
-pub byte-here : (s : Bytes) (i b : ℕ) (t : Bytes) → drop i s ≡ b ∷ t → get_or s i 0 ≡ b
+byte-here : (s : Bytes) (i b : ℕ) (t : Bytes) → drop i s ≡ b ∷ t → get_or s i 0 ≡ b
 byte-here s i b t e = ap (λ (x : ℕ). get_or s x 0) (sym (add-zero i)) ∙ sym (get_or-drop i s 0 0) ∙ ap (λ (x : Bytes). get_or x 0 0) e
 
-pub slice-here : (s : Bytes) (i j : ℕ) (x y : Bytes) → drop i s ≡ x ++ y → j ≡ i + length x → slice i j s ≡ x
+slice-here : (s : Bytes) (i j : ℕ) (x y : Bytes) → drop i s ≡ x ++ y → j ≡ i + length x → slice i j s ≡ x
 slice-here s i j x y e d = ap (λ (k : ℕ). slice i k s) d ∙ slice-part i (length x) s ∙ ap (take (length x)) e ∙ take-append_seam x y
 
 -- the attribute at a place, by how far it is to its `=`, its quote, and how far it is to the next
@@ -60,24 +60,20 @@ pub record PartIn (s : Bytes) (i : ℕ) (g : Part) : Type 0 where
   pub inside : g.end < length s
   pub space : get_or s i 0 ≡ code " "
   pub sign : get_or s g.equals 0 ≡ code "="
-  pub closed : get_or s g.end 0 ≡ get_or s (g.equals + 1) 0
   pub name : is_name (slice (i + 1) g.equals s) ≡ true
-  pub value : Bytes
-  pub means : Characters (slice (g.equals + 2) g.end s) value
-  pub within : all (in_value (get_or s (g.equals + 1) 0)) (slice (g.equals + 2) g.end s) ≡ true
   pub first : parts 0 (drop i s) ≡ attr_in s i g ∷ parts 0 (drop (g.end + 1) s)
   pub next : Reached s (g.end + 1)
 
 module _ (s : Bytes) (i : ℕ) (passed : List Attr) (is : parts 0 s ≡ passed ++ parts 0 (drop i s)) (h : i < length s) where
   -- an attribute stands there, with its name n, its quote q, what is between its quotes, and what comes after
-  one : {used : List Bytes} {u m : Bytes} {l : List Attr} (n : Bytes) (q : ℕ) (v : Bytes) → is_name n ≡ true → Characters v m → all (in_value q) v ≡ true → Attributes (n ∷ used) u l
+  one : {used : List Bytes} {u : Bytes} {l : List Attr} (n : Bytes) (q : ℕ) (v : Bytes) → is_name n ≡ true → all (in_value q) v ≡ true → Attributes (n ∷ used) u l
       → drop i s ≡ code " " ∷ After n q v u → PartIn s i (part_at s i)
   unfolding part_at
-  one {used} {u} {m} {l} n q v e f w r d =
+  one {used} {u} {l} n q v e w r d =
       let b : all is_name_byte n ≡ true = name-bytes n e in
       let d₁ : drop (i + 1) s ≡ After n q v u = drop_past s i (code " " ∷ []) (After n q v u) d in
-      let z : i + 1 + until (code "=") (drop (i + 1) s) ≡ i + 1 + length n = ap (λ (x : ℕ). i + 1 + x) (ap (until (code "=")) d₁ ∙ until-all is_name_byte (code "=") n (q ∷ (v ++ q ∷ u)) (name-no (code "=") equals-name) b) in
-      subst (λ (x : ℕ). PartIn s i (part_from s x)) (sym z) (from (i + 1 + length n) refl b d₁)
+      let m : i + 1 + until (code "=") (drop (i + 1) s) ≡ i + 1 + length n = ap (λ (x : ℕ). i + 1 + x) (ap (until (code "=")) d₁ ∙ until-all is_name_byte (code "=") n (q ∷ (v ++ q ∷ u)) (name-no (code "=") equals-name) b) in
+      subst (λ (x : ℕ). PartIn s i (part_from s x)) (sym m) (from (i + 1 + length n) refl b d₁)
     where
       from : (k : ℕ) → k ≡ i + 1 + length n → all is_name_byte n ≡ true → drop (i + 1) s ≡ After n q v u → PartIn s i (part_from s k)
       from k z b d₁ =
@@ -85,17 +81,15 @@ module _ (s : Bytes) (i : ℕ) (passed : List Attr) (is : parts 0 s ≡ passed +
           let d₃ : drop (k + 1) s ≡ q ∷ (v ++ q ∷ u) = drop_past s k (code "=" ∷ []) (q ∷ (v ++ q ∷ u)) d₂ in
           let d₄ : drop (k + 2) s ≡ v ++ q ∷ u = drop_past s k (code "=" ∷ q ∷ []) (v ++ q ∷ u) d₂ in
           let j : k + 2 + until (get_or s (k + 1) 0) (drop (k + 2) s) ≡ k + 2 + length v = ap (λ (x : ℕ). k + 2 + x) (ap₂ until (byte-here s (k + 1) q (v ++ q ∷ u) d₃) d₄ ∙ until-all (in_value q) q v u (value-no q) w) in
-          subst (λ (x : ℕ). PartIn s i (record { equals = k; end = x })) (sym j) (upto (k + 2 + length v) refl d₂ d₃ d₄)
+          subst (λ (x : ℕ). PartIn s i (record { equals = k; end = x })) (sym j) (upto (k + 2 + length v) refl d₂ d₄)
         where
-          upto : (o : ℕ) → o ≡ k + 2 + length v → drop k s ≡ code "=" ∷ q ∷ (v ++ q ∷ u) → drop (k + 1) s ≡ q ∷ (v ++ q ∷ u) → drop (k + 2) s ≡ v ++ q ∷ u → PartIn s i (record { equals = k; end = o })
-          upto o y d₂ d₃ d₄ =
+          upto : (o : ℕ) → o ≡ k + 2 + length v → drop k s ≡ code "=" ∷ q ∷ (v ++ q ∷ u) → drop (k + 2) s ≡ v ++ q ∷ u → PartIn s i (record { equals = k; end = o })
+          upto o y d₂ d₄ =
               let d₅ : drop o s ≡ q ∷ u = ap (λ (x : ℕ). drop x s) y ∙ drop_past s (k + 2) v (q ∷ u) d₄ in
               let d₆ : drop (o + 1) s ≡ u = drop_past s o (q ∷ []) u d₅ in
-              let a : slice (k + 2) o s ≡ v = slice-here s (k + 2) o v (q ∷ u) d₄ y in
-              let c : get_or s (k + 1) 0 ≡ q = byte-here s (k + 1) q (v ++ q ∷ u) d₃ in
-              let p : parts 0 (drop i s) ≡ attr_in s i (record { equals = k; end = o }) ∷ parts 0 (drop (o + 1) s) =
+              let f : parts 0 (drop i s) ≡ attr_in s i (record { equals = k; end = o }) ∷ parts 0 (drop (o + 1) s) =
               ap (parts 0) d ∙ parts-one n v u q b w
-              ∙ ap₂ (λ (x : Attr) (t : Bytes). x ∷ parts 0 t) (ap₂ attr (sym (slice-here s (i + 1) k n (code "=" ∷ q ∷ (v ++ q ∷ u)) d₁ z)) (sym a)) (sym d₆)
+              ∙ ap₂ (λ (x : Attr) (t : Bytes). x ∷ parts 0 t) (ap₂ attr (sym (slice-here s (i + 1) k n (code "=" ∷ q ∷ (v ++ q ∷ u)) d₁ z)) (sym (slice-here s (k + 2) o v (q ∷ u) d₄ y))) (sym d₆)
               in
               let t : o < length s = omega (arith, length-drop o s, ap length d₅) in
               record {
@@ -104,18 +98,14 @@ module _ (s : Bytes) (i : ℕ) (passed : List Attr) (is : parts 0 s ≡ passed +
                 inside = t;
                 space = byte-here s i (code " ") (After n q v u) d;
                 sign = byte-here s k (code "=") (q ∷ (v ++ q ∷ u)) d₂;
-                closed = byte-here s o q u d₅ ∙ sym c;
                 name = ap is_name (slice-here s (i + 1) k n (code "=" ∷ q ∷ (v ++ q ∷ u)) d₁ z) ∙ e;
-                value = m;
-                means = subst (λ (x : Bytes). Characters x m) (sym a) f;
-                within = ap₂ (λ (b : ℕ) (x : Bytes). all (in_value b) x) c a ∙ w;
-                first = p;
+                first = f;
                 next = record {
                   passed = passed ++ (attr_in s i (record { equals = k; end = o }) ∷ []);
                   used = n ∷ used;
                   left = l;
                   inside = omega arith;
-                  is = is ∙ ap (passed ++◌) p ∙ sym (append_assoc passed (attr_in s i (record { equals = k; end = o }) ∷ []) (parts 0 (drop (o + 1) s)));
+                  is = is ∙ ap (passed ++◌) f ∙ sym (append_assoc passed (attr_in s i (record { equals = k; end = o }) ∷ []) (parts 0 (drop (o + 1) s)));
                   spells = subst (λ (x : Bytes). Attributes (n ∷ used) x l) (sym d₆) r;
                 };
               }
@@ -123,7 +113,7 @@ module _ (s : Bytes) (i : ℕ) (passed : List Attr) (is : parts 0 s ≡ passed +
   here : {used : List Bytes} {u : Bytes} {l : List Attr} → Attributes used u l → drop i s ≡ u → PartIn s i (part_at s i)
   here none d = absurd (omega (arith, length-drop i s, ap length d))
   here {used} (more {n = n} {s = v} {u = u} q new quote c within r) d =
-      one n q v (new-name used n new) c within r (d ∙ sym (append-nil _) ∙ more-text n v u [] q ∙ ap (λ (x : Bytes). code " " ∷ After n q v x) (append-nil u))
+      one n q v (new-name used n new) within r (d ∙ sym (append-nil _) ∙ more-text n v u [] q ∙ ap (λ (x : Bytes). code " " ∷ After n q v x) (append-nil u))
 
 pub part_in : {s : Bytes} {i : ℕ} → Reached s i → i < length s → PartIn s i (part_at s i)
 part_in {s} {i} x h = here s i x.passed x.is h x.spells refl

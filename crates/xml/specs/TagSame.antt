@@ -1,7 +1,7 @@
 -- Two tags mean the same where their names are the same, and their attributes mean the same one by one, by ascending names.
-use Rattle.std.specs.Prelude.{ℕ, ◌+◌, ◌≤◌, ◌<◌, ◌≡◌, refl, true, false, ◌&&◌, List, [], ◌∷◌, ◌++◌, map, length}
-use Rattle.std.proofs.Common.{arith, ap, sym, ◌∙◌}
-use Rattle.std.proofs.Math.Path.{ap₂}
+use Rattle.std.specs.Prelude.{ℕ, ◌+◌, ◌≤◌, ◌<◌, ◌≡◌, refl, true, false, ◌&&◌, List, [], ◌∷◌, ◌++◌, map, leb, length}
+use Rattle.std.proofs.Common.{arith, ap, ◌∙◌, leb-true, leb-false}
+use Rattle.std.proofs.Math.Path.{ap₂, sym}
 use Rattle.std.proofs.Math.Seq.{slice}
 use Rattle.xml.specs.Bytes.{Bytes, same, same_by, is_name}
 use Rattle.xml.specs.BytesLaws.{same-is, same_self}
@@ -27,7 +27,7 @@ module _ (n v m w : Bytes) where
   unfolding alike
   alike-named e = rw e
 
-pub alike_is : (l k : List Attr) → same_by alike l k ≡ true → map means l ≡ map means k
+alike_is : (l k : List Attr) → same_by alike l k ≡ true → map means l ≡ map means k
 unfolding same_by alike means
 alike_is [] [] e = refl
 alike_is [] (y ∷ k) e = clash (sym e)
@@ -115,6 +115,10 @@ module _ {s₁ s₂ : Bytes} where
   comparing-start t₁ t₂ x y = record { reached₁ = x.reached; reached₂ = y.reached; is = ap₂ (same_by alike) (sorted_all t₁ x) (sorted_all t₂ y) }
 
   module _ {i j : ℕ} (c : Comparing s₁ i s₂ j) (h : i < length s₁) where
+    pub comparing-short : length s₂ ≤ j → same_by alike (sort (parts 0 s₁)) (sort (parts 0 s₂)) ≡ false
+    unfolding same_by
+    comparing-short k = c.is ∙ ap₂ (same_by alike) (sorted-here s₁ i h) (sorted-over c.reached₂ k)
+
     module _ {p q : Part} (k : j < length s₂) (e : p ≡ part_at s₁ i) (f : q ≡ part_at s₂ j) where
       pub comparing-other : alike (attr_in s₁ i p) (attr_in s₂ j q) ≡ false → same_by alike (sort (parts 0 s₁)) (sort (parts 0 s₂)) ≡ false
       unfolding same_by
@@ -129,6 +133,9 @@ module _ {s₁ s₂ : Bytes} where
             is = c.is ∙ ap₂ (same_by alike) (sorted-next h e x) (sorted-next k f y) ∙ rw d;
           }
 
-  pub comparing-end : {i j : ℕ} → Comparing s₁ i s₂ j → length s₁ ≤ i → length s₂ ≤ j → same_by alike (sort (parts 0 s₁)) (sort (parts 0 s₂)) ≡ true
+  pub comparing-end : {i j : ℕ} → Comparing s₁ i s₂ j → length s₁ ≤ i → leb (length s₂) j ≡ same_by alike (sort (parts 0 s₁)) (sort (parts 0 s₂))
   unfolding same_by
-  comparing-end c h k = c.is ∙ ap₂ (same_by alike) (sorted-over c.reached₁ h) (sorted-over c.reached₂ k)
+  comparing-end {i} {j} c h =
+      by-test (leb (length s₂) j)
+      (λ k. k ∙ sym (c.is ∙ ap₂ (same_by alike) (sorted-over c.reached₁ h) (sorted-over c.reached₂ (leb-true (length s₂) j k))))
+      (λ k. k ∙ sym (c.is ∙ ap₂ (same_by alike) (sorted-over c.reached₁ h) (sorted-here s₂ j (leb-false (length s₂) j k))))

@@ -1,26 +1,21 @@
 -- Counting over the attributes of a tag, one after another as they stand.
-use Prim.Native.Nat.{ℕ, zero, suc, ◌+◌, ◌*◌, ◌-◌, ◌≤◌}
+use Rattle.std.specs.Prelude.{ℕ, zero, suc, ◌+◌, ◌*◌, ◌-◌, ◌≤◌, ◌≡◌, Bool, true, false, ◌&&◌, List, [], ◌∷◌, map, eqb, length, take, drop, get_or}
 use Prim.Native.Char.{code}
-use Rattle.std.proofs.Common.{arith, ◌∙◌, length-append}
-use Rattle.std.specs.Prelude.{◌≡◌, Bool, ◌&&◌, ◌||◌, length, take, drop, get_or}
-use Rattle.std.proofs.Math.Path.{refl, ap, sym}
-use Rattle.std.proofs.Math.Bool.{true, false}
-use mathlib.Core.List.{List, [], ◌∷◌, map}
-use Rattle.std.proofs.Math.Dec.{eqb}
+use Rattle.std.proofs.Common.{arith, sym, ◌∙◌, length-append}
+use Rattle.std.proofs.Math.Path.{refl, ap}
 use Rattle.std.proofs.Math.Seq.{slice, slice_empty, length-slice}
 use Rattle.xml.specs.Bytes.{Bytes, bytes, any, same, same_by}
 use Rattle.xml.specs.BytesLaws.{same-is, same_self}
 use Rattle.xml.specs.CompareLaws.{same-lengths}
 use Rattle.xml.specs.SignLaws.{slice_first}
-use Rattle.xml.specs.Truth.{by-test, or-none, or_left, or_right, neither}
+use Rattle.xml.specs.Truth.{by-test}
 use Rattle.xml.specs.Tags.{Attr, attr, attr_name, attr_text, sort, tag_text, name_of, name_len_in, value_len_in, parts, count_but, attr_nodes, tag_nodes, named_t}
 use Rattle.xml.specs.Read.{unescape, means, tag_of}
 use Rattle.xml.specs.TagLaws.{text-long, sort-long, same_not}
-use Rattle.xml.specs.TagParts.{IsTag, attr_in, quoted, sizes_of}
+use Rattle.xml.specs.TagParts.{IsTag, attr_in, quoted}
 use Rattle.xml.specs.TagPlaces.{Reached, PartIn, tag-start, tag-first, none_left}
-use Rattle.xml.specs.TagWritten.{length-quoted, bare_parts}
+use Rattle.xml.specs.TagWritten.{length-quoted}
 use Rattle.xml.specs.declared.tag.Part.{Part}
-use Rattle.xml.specs.declared.tag.TagSizes.{TagSizes}
 
 unfoldable pub sum_of : (Attr → ℕ) → List Attr → ℕ
 sum_of f [] = 0
@@ -149,10 +144,6 @@ module _ (s : Bytes) where
   unfolding tag_nodes attr_nodes
   nodes-other e = rw (e, attr_nodes)
 
--- what a tag counts for, part by part
-pub sizes-are : (s : Bytes) {n a d b : ℕ} → n ≡ length (name_of s) → a ≡ length (parts 0 s) → d ≡ tag_nodes s → b ≡ length (tag_of s) → ◌≡◌ {A = TagSizes} (record { name = n; attributes = a; nodes = d; bytes = b }) (sizes_of s)
-sizes-are s e f g h = rw (e, f, g, h)
-
 -- ---- a tag or an attribute named `T`: none up to the place i
 abbrev pub is_t : Attr → Bool
 is_t x = same (attr_name x) (bytes "T")
@@ -165,44 +156,7 @@ pub named-first : (s : Bytes) → same (name_of s) (bytes "T") ≡ true → name
 unfolding named_t
 named-first s e = rw e
 
--- where no byte is b, no name is b alone
-module _ (b : ℕ) where
-  first-other : (n : ℕ) (s : Bytes) → any (λ x. eqb x b) s ≡ false → same (take n s) (b ∷ []) ≡ false
-  unfolding any same same_by
-  first-other zero s e = refl
-  first-other (suc n) [] e = refl
-  first-other (suc n) (c ∷ s) e = rw (or_left (eqb c b) (any (λ x. eqb x b) s) e)
-
-  parts-other : (k : ℕ) (s : Bytes) → any (λ x. eqb x b) s ≡ false → any (λ x. same (attr_name x) (b ∷ [])) (parts k s) ≡ false
-  unfolding any parts attr_name
-  parts-other k [] e = refl
-  parts-other (suc k) (c ∷ s) e = parts-other k s (or_right (eqb c b) (any (λ x. eqb x b) s) e)
-  parts-other zero (c ∷ s) e =
-      let r = or_right (eqb c b) (any (λ x. eqb x b) s) e in
-      at (eqb c (code " ")) (first-other (name_len_in s) s r) (parts-other (3 + name_len_in s + value_len_in s) s r) (parts-other 0 s r)
-    where
-      at : (t : Bool) → same (take (name_len_in s) s) (b ∷ []) ≡ false → any (λ x. same (attr_name x) (b ∷ [])) (parts (3 + name_len_in s + value_len_in s) s) ≡ false → any (λ x. same (attr_name x) (b ∷ [])) (parts 0 s) ≡ false →
-          any (λ x. same (attr_name x) (b ∷ []))
-          (elim t [
-            | true ↦ attr (take (name_len_in s) s) (take (value_len_in s) (drop (2 + name_len_in s) s)) ∷ parts (3 + name_len_in s + value_len_in s) s
-            | false ↦ parts 0 s
-          ]) ≡ false
-      at true h g k = neither h g
-      at false h g k = k
-
-pub named_none : (s : Bytes) → any (λ x. eqb x (code "T")) s ≡ false → named_t s ≡ false
-unfolding named_t bytes
-named_none s e =
-    let n : same (name_of s) (bytes "T") ≡ false = ap (λ (x : Bytes). same x (bytes "T")) (sym (name-first s)) ∙ first-other (code "T") (length (name_of s)) s e in
-    neither n (parts-other (code "T") 0 s e)
-
 module _ {s : Bytes} where
-  pub named-bare : IsTag s → same s (name_of s) ≡ true → same s (bytes "T") ≡ named_t s
-  unfolding named_t any
-  named-bare t e =
-      let n = same (name_of s) (bytes "T") in
-      ap (λ (x : Bytes). same x (bytes "T")) (same-is s (name_of s) e) ∙ sym (or-none n) ∙ ap (λ (l : List Attr). n || any is_t l) (sym (bare_parts t e))
-
   pub searched-start : {i : ℕ} → IsTag s → same (name_of s) (bytes "T") ≡ false → i ≡ length (name_of s) → Searched s i
   unfolding named_t
   searched-start t e d = record { reached = rw d (tag-start t); is = rw (e, d) (ap (any is_t) (tag-first t)) }

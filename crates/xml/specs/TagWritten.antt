@@ -1,21 +1,19 @@
 -- Writing a tag by its raw bytes: values, attributes, and the attributes by ascending names.
-use Rattle.std.specs.Prelude.{ℕ, suc, ◌+◌, ◌*◌, ◌-◌, ◌^◌, ◌≤◌, ◌<◌, ◌≡◌, Bool, true, false, ◌||◌, eqb, length, get_or}
+use Rattle.std.specs.Prelude.{ℕ, suc, ◌+◌, ◌*◌, ◌-◌, ◌^◌, ◌≤◌, ◌<◌, ◌≡◌, refl, Bool, true, false, eqb, length, get_or}
 use Prim.Native.Char.{code}
 use Rattle.std.proofs.Common.{arith, ap₂, ◌∙◌, length-append, get_or-append-add}
-use Rattle.std.proofs.Math.Path.{refl, ap, sym}
+use Rattle.std.proofs.Math.Path.{ap, sym}
 use Rattle.std.proofs.Math.Bool.{not}
 use mathlib.Core.List.{List, [], ◌∷◌, ◌++◌, append_assoc, append-nil, map}
-use borrow.Author.Tests.{eq-eqb, ne_eqb, eqb-false}
+use borrow.Author.Tests.{eq-eqb, ne_eqb}
 use Rattle.std.proofs.Math.Seq.{slice, slice_empty}
-use Rattle.xml.specs.Bytes.{Bytes, bytes, any, all, keep, same, is_name_byte, is_name, bytes_compute}
+use Rattle.xml.specs.Bytes.{Bytes, bytes, all, keep, same, is_name_byte, is_name, bytes_compute}
 use Rattle.xml.specs.BytesLaws.{same-is, same_self}
 use Rattle.xml.specs.CompareLaws.{same-lengths}
 use Rattle.xml.specs.Tags.{Attr, attr, attr_name, escape_value, attr_text, less, insert, sort, tag_text, name_of, until, parts, is_quote}
 use Rattle.xml.specs.Grammar.{Attributes, none, more, StartTag, bare, attributed}
 use Rattle.xml.specs.Read.{unescape, means, tag_of}
-use Rattle.xml.specs.Truth.{both_true, neither, or-none, or_left, or_right}
-use Rattle.xml.specs.GrammarLaws.{unescape-plain}
-use Rattle.xml.specs.Signs.{is_value_mark}
+use Rattle.xml.specs.Truth.{both_true, neither, or-none}
 use Rattle.xml.specs.Names.{name-some, name-bytes}
 use Rattle.xml.specs.Fresh.{new-name}
 use Rattle.xml.specs.SignLaws.{Meant, slice_first}
@@ -97,16 +95,17 @@ module _ {s : Bytes} (t : IsTag s) where
       named (bare e) = e
       named (attributed e p r) = e
 
-  -- a name alone has no attributes, and means itself
-  pub bare_parts : same s (name_of s) ≡ true → parts 0 s ≡ []
-  bare_parts e = ap (parts 0) (same-is s (name_of s) e) ∙ name-bare (name_of s) tag-named
-
+  -- a name alone means itself
   pub bare-means : same s (name_of s) ≡ true → tag_of s ≡ s
-  unfolding tag_of tag_text attr_text sort
-  bare-means e = ap (λ (l : List Attr). name_of s ++ attr_text (sort (map means l))) (bare_parts e) ∙ append-nil (name_of s) ∙ sym (same-is s (name_of s) e)
+  unfolding tag_of tag_text attr_text sort parts
+  bare-means e =
+      let n = name_of s in
+      let h : s ≡ n = same-is s n e in
+      let p : parts 0 s ≡ [] = ap (parts 0) h ∙ name-bare n tag-named in
+      ap (λ (l : List Attr). n ++ attr_text (sort (map means l))) p ∙ append-nil n ∙ sym h
 
 -- ---- values
-pub escape-value : (b : ℕ) (s : Bytes) → escape_value (b ∷ s) ≡ escape_value (b ∷ []) ++ escape_value s
+escape-value : (b : ℕ) (s : Bytes) → escape_value (b ∷ s) ≡ escape_value (b ∷ []) ++ escape_value s
 unfolding escape_value bytes
 escape-value b s = at (eqb b (code "&")) (eqb b (code "<")) (eqb b (code "\""))
   where
@@ -142,28 +141,6 @@ module _ (b : ℕ) where
   unfolding escape_value
   value-one x y z = rw (ne_eqb b (code "&") x, ne_eqb b (code "<") y, ne_eqb b (code "\"") z, escape_value)
 
--- a byte that is written as it stands
-quoted-byte : (b : ℕ) (s : Bytes) → is_value_mark b ≡ false → quoted (b ∷ s) ≡ b ∷ quoted s
-unfolding is_value_mark
-quoted-byte b s e =
-    let d = or_left (eqb b (code "&") || eqb b (code "<") || eqb b (code "\"")) (eqb b (code "\r")) e in
-    let l = or_left (eqb b (code "&") || eqb b (code "<")) (eqb b (code "\"")) d in
-    let amp = eqb-false b (code "&") (or_left (eqb b (code "&")) (eqb b (code "<")) l) in
-    let lt = eqb-false b (code "<") (or_right (eqb b (code "&")) (eqb b (code "<")) l) in
-    let quot = eqb-false b (code "\"") (or_right (eqb b (code "&") || eqb b (code "<")) (eqb b (code "\"")) d) in
-    let return = eqb-false b (code "\r") (or_right (eqb b (code "&") || eqb b (code "<") || eqb b (code "\"")) (eqb b (code "\r")) e) in
-    ap escape_value (unescape-plain b s amp return) ∙ escape-value b (unescape 0 s) ∙ ap (λ (x : Bytes). x ++ quoted s) (value-one b amp lt quot)
-
--- whether a part has a byte that passes a test: the first, or one after it
-module _ (f : ℕ → Bool) (s : Bytes) where
-  pub any-first : (i e : ℕ) → i < e → e ≤ length s → any f (slice i e s) ≡ (f (get_or s i 0) || any f (slice (i + 1) e s))
-  unfolding any
-  any-first i e h k = rw (slice_first i e s h k) refl
-
-  pub any-over : (e : ℕ) → any f (slice e e s) ≡ false
-  unfolding any
-  any-over e = rw (slice_empty e s)
-
 pub quoted-over : (s : Bytes) (e : ℕ) → quoted (slice e e s) ≡ []
 unfolding unescape escape_value
 quoted-over s e = rw (slice_empty e s)
@@ -176,12 +153,6 @@ pub left-value : {s whole out mid left : List ℕ} {i e at to r : ℕ} {g : Sign
     → Wrote mid to (escape_value (g.byte ∷ [])) r left → Left whole (quoted (slice g.next e s)) out at r left
 left-value {s} {i = i} {e = e} {g = g} m x w =
     left-more (escape_value (g.byte ∷ [])) (rw (ap escape_value m.means ∙ escape-value g.byte (unescape 0 (slice g.next e s))) at x) w
-
--- and a byte that is written as it stands
-pub left-plain : (s : Bytes) {whole out mid left : List ℕ} {i e at to r : ℕ} → i < e → e ≤ length s → is_value_mark (get_or s i 0) ≡ false → Left whole (quoted (slice i e s)) out at to mid
-    → Wrote mid to (get_or s i 0 ∷ []) r left → Left whole (quoted (slice (i + 1) e s)) out at r left
-left-plain s {i = i} {e = e} h k n x w =
-    left-more (get_or s i 0 ∷ []) (rw (ap quoted (slice_first i e s h k) ∙ quoted-byte (get_or s i 0) (slice (i + 1) e s) n) at x) w
 
 -- ---- an attribute
 pub part-text : {s : Bytes} {i : ℕ} {g : Part} → PartIn s i g → attr_text (means (attr_in s i g) ∷ []) ≡ ((slice i (g.equals + 1) s ++ (code "\"" ∷ [])) ++ quoted (slice (g.equals + 2) g.end s)) ++ (code "\"" ∷ [])
@@ -196,7 +167,7 @@ part-text {s} {i} {g} p =
     rw e (simp append_assoc)
 
 -- the first, and those after it
-pub text-first : (x : Attr) (l : List Attr) → attr_text (x ∷ l) ≡ attr_text (x ∷ []) ++ attr_text l
+text-first : (x : Attr) (l : List Attr) → attr_text (x ∷ l) ≡ attr_text (x ∷ []) ++ attr_text l
 unfolding attr_text bytes
 text-first (attr n v) l = simp append_assoc
 
@@ -222,7 +193,7 @@ unfolding tag_of tag_text
 tag-text s = ap (λ (l : List Attr). name_of s ++ attr_text l) (sort-means (parts 0 s))
 
 -- all of them come after the empty name
-pub name-less : (n : Bytes) → is_name n ≡ true → less [] n ≡ true
+name-less : (n : Bytes) → is_name n ≡ true → less [] n ≡ true
 unfolding less is_name
 name-less [] e = e
 name-less (b ∷ n) e = refl
@@ -245,6 +216,10 @@ sorted-next {s} {i} {r} {g} h e x =
 
 pub sorted-over : {s : Bytes} {i : ℕ} → Reached s i → length s ≤ i → sorted_from s i ≡ []
 sorted-over {s} {i} x h = let k = x.inside in let z : i ≡ length s = omega arith in ap (sorted_from s) z ∙ sorted-end s
+
+-- each turn leaves fewer
+pub sorted-less : {s : Bytes} {i r : ℕ} {g : Part} → i < length s → g ≡ part_at s i → NextPart s (slice (i + 1) g.equals s) r → length (sorted_from s r) < length (sorted_from s i)
+sorted-less h e x = omega (arith, ap length (sorted-next h e x))
 
 -- ---- the attributes of a tag on their way out
 module _ {s : Bytes} where

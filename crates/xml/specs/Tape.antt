@@ -1,12 +1,10 @@
 -- The tape: a forest in memory, two cells a node, in the order of the text. The first cell is start * 131072 + count * 4 + kind, of the
--- bytes of the text that name the node (what stands in an element's start tag, a timestamp, a run's raw bytes); the second is the number of the first node
+-- bytes of the text that name the node (an element's name, a timestamp, a run's raw bytes); the second is the number of the first node
 -- after its subtree.
-use Rattle.std.specs.Prelude.{ℕ, ◌+◌, ◌*◌, ◌/◌, ◌%◌, ◌<◌, ◌≤◌, ◌≡◌, false, List, length, get_or}
+use Rattle.std.specs.Prelude.{ℕ, ◌+◌, ◌*◌, ◌/◌, ◌%◌, ◌<◌, ◌≤◌, ◌≡◌, List, [], ◌∷◌, ◌++◌, length, get_or}
 use Rattle.std.proofs.Math.Seq.{slice}
 use Rattle.xml.specs.Bytes.{Bytes}
 use Rattle.xml.specs.Forest.{Forest, end, elem, text, stamp, write}
-use Rattle.xml.specs.Tags.{name_of, parts}
-use Rattle.xml.specs.Grammar.{StartTag}
 use Rattle.xml.specs.Read.{unescape}
 use Rattle.xml.specs.Over.{Wrote}
 
@@ -29,18 +27,12 @@ pub record Node (src cells : List ℕ) (p kind : ℕ) (bytes : Bytes) : Type 0 w
   pub within : end_in (head_at cells p) ≤ length src
   pub bytes-are : slice (start_in (head_at cells p)) (end_in (head_at cells p)) src ≡ bytes
 
--- node p is an element with this tag: its bytes spell it
-pub record Tagged (src cells : List ℕ) (p : ℕ) (tag : Bytes) : Type 0 where
-  pub raw : Bytes
-  pub node : Node src cells p 1 raw
-  pub start : StartTag false raw (name_of tag) tag
-
 -- nodes p up to q of the tape are the forest
 pub data Tape (src cells : List ℕ) : ℕ → ℕ → Forest → Type 0 where
   at-end : {p q : ℕ} → p ≡ q → Tape src cells p q end
   at-text : {p q : ℕ} {raw b : Bytes} {r : Forest} → Node src cells p 0 raw → unescape 0 raw ≡ b → next_at cells p ≡ p + 1 → Tape src cells (p + 1) q r
       → Tape src cells p q (text b r)
-  at-elem : {p q : ℕ} {n : Bytes} {k r : Forest} → Tagged src cells p n → Tape src cells (p + 1) (next_at cells p) k
+  at-elem : {p q : ℕ} {n : Bytes} {k r : Forest} → Node src cells p 1 n → Tape src cells (p + 1) (next_at cells p) k
       → Tape src cells (next_at cells p) q r → Tape src cells p q (elem n k r)
   at-stamp : {p q : ℕ} {t : Bytes} {k r : Forest} → Node src cells p 2 t → Tape src cells (p + 1) (next_at cells p) k
       → Tape src cells (next_at cells p) q r → Tape src cells p q (stamp t k r)
@@ -51,13 +43,6 @@ size end = 0
 size (text b r) = 1 + size r
 size (elem n k r) = 1 + size k + size r
 size (stamp t k r) = 1 + size k + size r
-
--- how many attributes the tags of a forest have
-unfoldable pub attrs_in : Forest → ℕ
-attrs_in end = 0
-attrs_in (text b r) = attrs_in r
-attrs_in (elem n k r) = length (parts 0 n) + attrs_in k + attrs_in r
-attrs_in (stamp t k r) = attrs_in k + attrs_in r
 
 -- the nodes lo to hi are a forest
 pub record Valid (src cells : List ℕ) (lo hi : ℕ) : Type 0 where

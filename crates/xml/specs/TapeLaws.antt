@@ -9,41 +9,19 @@ use Rattle.std.proofs.Math.ListN.{length, length-append}
 use Rattle.std.proofs.Math.Seq.{slice, length-slice, take-nil}
 use borrow.Author.Tests.{eq-eqb, ne_eqb, eqb-true}
 use Rattle.xml.specs.Bytes.{Bytes, bytes}
-use Rattle.xml.specs.Forest.{Forest, end, elem, text, stamp, join, write, escape, nodes}
-use Rattle.xml.specs.Tags.{name_of}
-use Rattle.xml.specs.Read.{entity_at, unescape, tag_of}
+use Rattle.xml.specs.Forest.{Forest, end, elem, text, stamp, join, write, escape}
+use Rattle.xml.specs.Read.{entity_at, unescape}
 use Rattle.xml.specs.declared.Found.{Found}
 use Rattle.xml.specs.declared.Found.TheVariants.{Hit, Miss}
 use Rattle.xml.specs.Over.{Wrote}
 use Rattle.xml.specs.OverLaws.{wrote_none, wrote_then}
-use Rattle.xml.specs.Tape.{head_at, next_at, start_in, end_in, Node, Tagged, Tape, at-end, at-text, at-elem, at-stamp, size, Writes}
+use Rattle.xml.specs.Tape.{head_at, next_at, start_in, end_in, Node, Tape, at-end, at-text, at-elem, at-stamp, size, Writes}
 use Rattle.xml.specs.Views.{is_run}
 use Rattle.xml.specs.Truth.{both_true}
-use Rattle.xml.specs.TagLaws.{Tag, start-means, start-long, start-attrs, tag-counts}
 
 -- the bytes that name the node p
 abbrev pub bytes_at : List ℕ → List ℕ → ℕ → Bytes
 bytes_at src cells p = slice (start_in (head_at cells p)) (end_in (head_at cells p)) src
-
--- what the bytes that name a node of a kind mean: a run of text, a tag, or times
-unfoldable pub meaning : ℕ → Bytes → Bytes
-meaning k raw = elim (eqb k 0) [ true ↦ unescape 0 raw | false ↦ elim (eqb k 1) [ true ↦ tag_of raw | false ↦ raw ] ]
-
-module _ (k : ℕ) (raw : Bytes) where
-  pub means-text : k ≡ 0 → meaning k raw ≡ unescape 0 raw
-  unfolding meaning
-  means-text e = rw (eq-eqb k 0 e, meaning)
-
-  pub means-tag : k ≡ 1 → meaning k raw ≡ tag_of raw
-  unfolding meaning
-  means-tag e = rw (ne_eqb k 0 (λ x. omega arith), eq-eqb k 1 e, meaning)
-
-  pub means-other : (k ≡ 0 → ⊥) → (k ≡ 1 → ⊥) → meaning k raw ≡ raw
-  unfolding meaning
-  means-other m n = rw (ne_eqb k 0 m, ne_eqb k 1 n, meaning)
-
-  pub means-times : k ≡ 2 → meaning k raw ≡ raw
-  means-times e = means-other (λ x. omega arith) (λ x. omega arith)
 
 -- a part by its start and its length
 pub slice-part : (start count : ℕ) (l : List ℕ) → slice start (start + count) l ≡ take count (drop start l)
@@ -57,25 +35,8 @@ opening true n = bytes "<" ++ n ++ bytes ">"
 opening false t = bytes "<T t=\"" ++ t ++ bytes "\">"
 
 unfoldable pub closing : Bool → Bytes → Bytes
-closing true n = bytes "</" ++ name_of n ++ bytes ">"
+closing true n = bytes "</" ++ n ++ bytes ">"
 closing false t = bytes "</T>"
-
--- what the bytes that name an element, or an archive's `T`, mean: its tag, or its times
-abbrev pub meant_by : Bool → Bytes → Bytes
-meant_by true raw = tag_of raw
-meant_by false raw = raw
-
-pub meant-by : (k : ℕ) (raw : Bytes) → (k ≡ 0 → ⊥) → meant_by (eqb k 1) raw ≡ meaning k raw
-unfolding meaning
-meant-by k raw n = rw (ne_eqb k 0 n, meaning) (at (eqb k 1))
-  where
-    at : (t : Bool) → meant_by t raw ≡ elim t [ true ↦ tag_of raw | false ↦ raw ]
-    at true = refl
-    at false = refl
-
--- what the bytes that name the node p mean
-abbrev pub meant_at : List ℕ → List ℕ → ℕ → Bytes
-meant_at src cells p = meaning (head_at cells p % 4) (bytes_at src cells p)
 
 -- the first of the nodes p to q
 pub record Front (src cells : List ℕ) (p q : ℕ) : Type 0 where
@@ -98,9 +59,9 @@ pub record Split (src cells : List ℕ) (p q : ℕ) (f : Forest) : Type 0 where
 pub record Inner (src cells : List ℕ) (p : ℕ) (f : Forest) : Type 0 where
   pub kids : Forest
   pub tape : Tape src cells (p + 1) (next_at cells p) kids
-  pub element : head_at cells p % 4 ≡ 1 → f ≡ elem (tag_of (bytes_at src cells p)) kids end
+  pub element : head_at cells p % 4 ≡ 1 → f ≡ elem (bytes_at src cells p) kids end
   pub timed : head_at cells p % 4 ≡ 2 → f ≡ stamp (bytes_at src cells p) kids end
-  pub written : write f ≡ opening (eqb (head_at cells p % 4) 1) (meant_at src cells p) ++ write kids ++ closing (eqb (head_at cells p % 4) 1) (meant_at src cells p)
+  pub written : write f ≡ opening (eqb (head_at cells p % 4) 1) (bytes_at src cells p) ++ write kids ++ closing (eqb (head_at cells p % 4) 1) (bytes_at src cells p)
 
 -- the nodes p to q are one run of text: its node, and no other
 pub record OneRun (src cells : List ℕ) (p q : ℕ) : Type 0 where
@@ -154,13 +115,6 @@ length-unescape zero (b ∷ s) = at (eqb b (code "&")) (eqb b (code "\r")) (eqb 
     at true x y (Hit n c) f = omega (arith, f n)
     at true x y (Miss n) f = omega (arith, f 0)
 
--- the tag of an element
-pub tagged_is : {src cells : List ℕ} {p : ℕ} {n : Bytes} → Tagged src cells p n → tag_of (bytes_at src cells p) ≡ n
-tagged_is n = ap tag_of n.node.bytes-are ∙ start-means n.start
-
-pub tagged-start : {src cells : List ℕ} {p : ℕ} {n : Bytes} → Tagged src cells p n → Tag false (bytes_at src cells p)
-tagged-start {n = t} n = record { name = name_of t; tag = t; start = rw n.node.bytes-are n.start }
-
 module _ {src cells : List ℕ} where
   pub tape-le : {p q : ℕ} {f : Forest} → Tape src cells p q f → p ≤ q
   tape-le (at-end e) = omega arith
@@ -194,13 +148,13 @@ module _ {src cells : List ℕ} where
   pub tape-room : {p q : ℕ} {f : Forest} → Tape src cells p q f → 2 * p ≤ length cells → 2 * q ≤ length cells
   tape-room (at-end e) h = omega arith
   tape-room (at-text n u e r) h = tape-room r (omega (arith, n.held))
-  tape-room (at-elem n k r) h = tape-room r (tape-room k (omega (arith, n.node.held)))
+  tape-room (at-elem n k r) h = tape-room r (tape-room k (omega (arith, n.held)))
   tape-room (at-stamp n k r) h = tape-room r (tape-room k (omega (arith, n.held)))
 
   pub front : {p q : ℕ} {f : Forest} → Tape src cells p q f → p < q → Front src cells p q
   front (at-end e) l = absurd (omega arith)
   front (at-text n u e r) l = record { held = n.held; within = n.within; forward = omega arith; inside = omega (arith, tape-le r); kind = omega (arith, n.kind-is) }
-  front (at-elem n k r) l = record { held = n.node.held; within = n.node.within; forward = omega (arith, tape-le k); inside = tape-le r; kind = omega (arith, n.node.kind-is) }
+  front (at-elem n k r) l = record { held = n.held; within = n.within; forward = omega (arith, tape-le k); inside = tape-le r; kind = omega (arith, n.kind-is) }
   front (at-stamp n k r) l = record { held = n.held; within = n.within; forward = omega (arith, tape-le k); inside = tape-le r; kind = omega (arith, n.kind-is) }
 
   pub one-run : {p q : ℕ} {f : Forest} → Tape src cells p q f → is_run cells p q ≡ true → OneRun src cells p q
@@ -221,7 +175,7 @@ module _ {src cells : List ℕ} where
   pub text-node : {p : ℕ} {f : Forest} → Tape src cells p (next_at cells p) f → p < next_at cells p → head_at cells p % 4 ≡ 0 → f ≡ text (unescape 0 (bytes_at src cells p)) end
   text-node (at-end e) l k = absurd (omega arith)
   text-node (at-text n u e r) l k = rw (n.bytes-are, u, tape-none (rw e at r)) refl
-  text-node (at-elem n i r) l k = absurd (omega (arith, n.node.kind-is))
+  text-node (at-elem n i r) l k = absurd (omega (arith, n.kind-is))
   text-node (at-stamp n i r) l k = absurd (omega (arith, n.kind-is))
 
   pub inner-node : {p : ℕ} {f : Forest} → Tape src cells p (next_at cells p) f → p < next_at cells p → (head_at cells p % 4 ≡ 0 → ⊥) → Inner src cells p f
@@ -232,9 +186,9 @@ module _ {src cells : List ℕ} where
       record {
         kids = _;
         tape = i;
-        element = λ e. rw (n.node.bytes-are, start-means n.start, tape-none r) refl;
-        timed = λ e. absurd (omega (arith, n.node.kind-is));
-        written = rw (eq-eqb _ _ n.node.kind-is, means-tag _ (bytes_at src cells _) n.node.kind-is, tagged_is n, tape-none r) (simp (append-nil, append_assoc));
+        element = λ e. rw (n.bytes-are, tape-none r) refl;
+        timed = λ e. absurd (omega (arith, n.kind-is));
+        written = rw (eq-eqb _ _ n.kind-is, n.bytes-are, tape-none r) (simp (append-nil, append_assoc));
       }
   inner-node {p} (at-stamp n i r) l k =
       record {
@@ -242,7 +196,7 @@ module _ {src cells : List ℕ} where
         tape = i;
         element = λ e. absurd (omega (arith, n.kind-is));
         timed = λ e. rw (n.bytes-are, tape-none r) refl;
-        written = rw (ne_eqb (head_at cells p % 4) 1 (omega (arith, n.kind-is)), means-times (head_at cells p % 4) (bytes_at src cells p) n.kind-is, n.bytes-are, tape-none r) (append-nil _);
+        written = rw (ne_eqb (head_at cells p % 4) 1 (omega (arith, n.kind-is)), n.bytes-are, tape-none r) (append-nil _);
       }
 
   -- a loop over siblings
@@ -270,44 +224,19 @@ module _ {src cells : List ℕ} where
   pub node-bytes : {p kind : ℕ} {b : Bytes} → Node src cells p kind b → length b ≤ 32767
   node-bytes {p} n = omega (arith, ap length n.bytes-are, length-slice (start_in (head_at cells p)) (end_in (head_at cells p)) src n.within)
 
-  -- the bytes that name an element are what stands in a start tag
-  pub open-tag : {p q : ℕ} {f : Forest} → Tape src cells p q f → p < q → head_at cells p % 4 ≡ 1 → Tag false (bytes_at src cells p)
-  open-tag (at-end e) l k = absurd (omega arith)
-  open-tag (at-text n u e r) l k = absurd (omega (arith, n.kind-is))
-  open-tag (at-elem n i r) l k = tagged-start n
-  open-tag (at-stamp n i r) l k = absurd (omega (arith, n.kind-is))
-
-  -- an element's tag is not too long
-  pub tag-length : {p q : ℕ} {f : Forest} → Tape src cells p q f → p < q → head_at cells p % 4 ≡ 1 → length (tag_of (bytes_at src cells p)) ≤ 196602
-  tag-length (at-end e) l k = absurd (omega arith)
-  tag-length (at-text n u e r) l k = absurd (omega (arith, n.kind-is))
-  tag-length (at-elem n i r) l k = rw (tagged_is n) (omega (arith, node-bytes n.node, start-long n.start))
-  tag-length (at-stamp n i r) l k = absurd (omega (arith, n.kind-is))
-
-  -- a node is written in 196,640 bytes at most
-  pub length-write : {p q : ℕ} {f : Forest} → Tape src cells p q f → length (write f) ≤ 196640 * (q - p)
+  -- a node is written in 163,840 bytes at most
+  pub length-write : {p q : ℕ} {f : Forest} → Tape src cells p q f → length (write f) ≤ 163840 * (q - p)
   unfolding write bytes
   length-write (at-end e) = omega arith
   length-write (at-text {raw = raw} {b = b} n u e r) =
       simp length-append (omega (arith, node-bytes n, ap length u, length-unescape 0 raw, length-escape b, length-write r, tape-le r))
-  length-write (at-elem n k r) = simp length-append (omega (arith, node-bytes n.node, start-long n.start, length-write k, length-write r, tape-le k, tape-le r))
+  length-write (at-elem n k r) = simp length-append (omega (arith, node-bytes n, length-write k, length-write r, tape-le k, tape-le r))
   length-write (at-stamp n k r) = simp length-append (omega (arith, node-bytes n, length-write k, length-write r, tape-le k, tape-le r))
-
-  -- a node counts for 8,192 at most
-  pub tape-most : {p q : ℕ} {f : Forest} → Tape src cells p q f → nodes f ≤ 8192 * (q - p)
-  unfolding nodes
-  tape-most (at-end e) = omega arith
-  tape-most (at-text n u e r) = omega (arith, tape-most r, tape-le r)
-  tape-most (at-elem {n = t} n k r) = omega (arith, node-bytes n.node, start-attrs n.start, tag-counts t, tape-most k, tape-most r, tape-le k, tape-le r)
-  tape-most (at-stamp n k r) = omega (arith, tape-most k, tape-most r, tape-le k, tape-le r)
 
 -- another tape with the same cells is the same forest
 module _ {src cells : List ℕ} (new : List ℕ) where
   pub node-same : {p n kind : ℕ} {b : Bytes} → head_at new n ≡ head_at cells p → 2 * n + 1 < length new → Node src cells p kind b → Node src new n kind b
   node-same e l n = record { held = l; kind-is = rw e n.kind-is; within = rw e n.within; bytes-are = rw e n.bytes-are }
-
-  pub tagged-same : {p n : ℕ} {t : Bytes} → head_at new n ≡ head_at cells p → 2 * n + 1 < length new → Tagged src cells p t → Tagged src new n t
-  tagged-same e l n = record { raw = n.raw; node = node-same e l n.node; start = n.start }
 
   pub tape-same : {p q : ℕ} {f : Forest} → Kept cells new p q → Tape src cells p q f → Tape src new p q f
   tape-same s (at-end e) = at-end e
@@ -322,7 +251,7 @@ module _ {src cells : List ℕ} (new : List ℕ) where
       let u = tape-le r in
       let l = s.room in
       let x : next_at new p ≡ next_at cells p = s.same (2 * p + 1) (omega arith) (omega arith) in
-      at-elem {q = q} {k = f} {r = g} (tagged-same (s.same (2 * p) (omega arith) (omega arith)) (omega arith) n)
+      at-elem {q = q} {k = f} {r = g} (node-same (s.same (2 * p) (omega arith) (omega arith)) (omega arith) n)
       (rw x (tape-same (kept-part (omega arith) (omega arith) s) k))
       (rw x (tape-same (kept-part (omega arith) (omega arith) s) r))
   tape-same {p} {q} s (at-stamp {k = f} {r = g} n k r) =
@@ -346,19 +275,19 @@ module _ {src cells : List ℕ} where
       let x : b ≡ c = sym u ∙ ap (unescape 0) (node-one n m) ∙ v in
       let y = tape-one r s in
       cc
-  tape-one {p} (at-text n u e r) (at-elem m k s) = absurd (omega (arith, n.kind-is, m.node.kind-is))
+  tape-one {p} (at-text n u e r) (at-elem m k s) = absurd (omega (arith, n.kind-is, m.kind-is))
   tape-one {p} (at-text n u e r) (at-stamp m k s) = absurd (omega (arith, n.kind-is, m.kind-is))
   tape-one {p} (at-elem n k r) (at-end d) = absurd (omega (arith, tape-le k, tape-le r))
-  tape-one {p} (at-elem n k r) (at-text m v d s) = absurd (omega (arith, n.node.kind-is, m.kind-is))
-  tape-one {p} (at-elem {n = b} n k r) (at-elem {n = c} m l s) =
-      let x : b ≡ c = sym (start-means n.start) ∙ ap tag_of (node-one n.node m.node) ∙ start-means m.start in
+  tape-one {p} (at-elem n k r) (at-text m v d s) = absurd (omega (arith, n.kind-is, m.kind-is))
+  tape-one {p} (at-elem n k r) (at-elem m l s) =
+      let x = node-one n m in
       let y = tape-one k l in
       let z = tape-one r s in
       cc
-  tape-one {p} (at-elem n k r) (at-stamp m l s) = absurd (omega (arith, n.node.kind-is, m.kind-is))
+  tape-one {p} (at-elem n k r) (at-stamp m l s) = absurd (omega (arith, n.kind-is, m.kind-is))
   tape-one {p} (at-stamp n k r) (at-end d) = absurd (omega (arith, tape-le k, tape-le r))
   tape-one {p} (at-stamp n k r) (at-text m v d s) = absurd (omega (arith, n.kind-is, m.kind-is))
-  tape-one {p} (at-stamp n k r) (at-elem m l s) = absurd (omega (arith, n.kind-is, m.node.kind-is))
+  tape-one {p} (at-stamp n k r) (at-elem m l s) = absurd (omega (arith, n.kind-is, m.kind-is))
   tape-one {p} (at-stamp n k r) (at-stamp m l s) =
       let x = node-one n m in
       let y = tape-one k l in

@@ -5,12 +5,11 @@ use Rattle.std.proofs.Common.{sym, ap, ◌∙◌, subst, arith, length-append}
 use Rattle.std.proofs.lemmas.List.{get_or_at}
 use Rattle.xml.specs.Bytes.{Bytes, bytes}
 use Rattle.xml.specs.Forest.{Forest}
-use Rattle.xml.specs.Read.{common, scan, tag_len, Stack, Move, move, wrong, start_of, start_by, start_tag, times_of}
+use Rattle.xml.specs.Read.{common, name_len, scan, Stack, Move, move, wrong, start_of, start_tag, times_of}
 use Rattle.xml.specs.Runs.{Ends, scan-sound}
 use Rattle.xml.specs.StepLaws.{StartCase, none, opens, lone, slash, times, bad, start-case, tag-none, tag_open, tag-bad, tag-times, tag-slash, tag-empty}
 use Rattle.xml.specs.TimedTags.{reach_t, times-reach}
-use Rattle.xml.specs.declared.Run.{Run}
-use Rattle.xml.specs.declared.Run.TheVariants.{Upto, Stop}
+use Rattle.xml.specs.declared.Run.TheVariants.{Upto}
 
 -- a step that goes on reads two bytes more at least
 abbrev pub Far : Move → Type 0
@@ -21,9 +20,12 @@ far-by : (m : Move) → 2 ≤ reach_t m → Far m
 far-by (move st f k) h = h
 far-by (wrong k) h = tt
 
-far-of : (a : Bool) (st : Stack) (f : Forest) (s : Bytes) (n : ℕ) → Far (start_of a st f s n)
-far-of a st f s n = at (start-case a s n)
+pub start-far : (a : Bool) (st : Stack) (f : Forest) (s : Bytes) → Far (start_tag a st f s)
+start-far a st f s = at (start-case a s (name_len s))
   where
+    n : ℕ
+    n = name_len s
+
     at : StartCase a s n → Far (start_of a st f s n)
     at (none z) = subst Far (sym (tag-none a st f s n z)) tt
     at (opens z b) = subst Far (sym (tag_open a st f s n z b)) (omega arith)
@@ -33,13 +35,6 @@ far-of a st f s n = at (start-case a s n)
         let m = common (bytes " t=\"") (drop 1 s) in
         subst Far (sym (tag-times a st f s n z b d t)) (far-by (times_of st f (drop 1 s) m) (omega (arith, times-reach st f (drop 1 s) m)))
     at (bad z b d t) = subst Far (sym (tag-bad a st f s n z b d t)) tt
-
-pub start-far : (a : Bool) (st : Stack) (f : Forest) (s : Bytes) → Far (start_tag a st f s)
-start-far a st f s = at (tag_len a s)
-  where
-    at : (r : Run) → Far (start_by a st f s r)
-    at (Upto n) = far-of a st f s n
-    at (Stop k) = tt
 
 -- a `<` stands after a run of text, or nothing
 pub run-then : (s : Bytes) (k : ℕ) → scan 0 0 0 s ≡ Upto k → k < length s → get_or s k 0 ≡ code "<"

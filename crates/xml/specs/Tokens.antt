@@ -1,22 +1,20 @@
 -- What the scanner says of a tag, for any state of the reader: which step of reading it is.
 use Prim.Native.Char.{code}
-use Rattle.std.specs.Prelude.{ℕ, suc, ◌+◌, ◌≤◌, ◌≡◌, refl, Bool, true, false, ◌&&◌, [], ◌∷◌, eqb, length, take, drop, get_or}
-use Rattle.std.proofs.Common.{ap, sym, ◌∙◌, subst, arith, eq-eqb, ne_eqb, eqb-true, get_or-drop}
+use Rattle.std.specs.Prelude.{ℕ, suc, ◌+◌, ◌≡◌, refl, Bool, true, false, ◌&&◌, [], ◌∷◌, eqb, length, take, drop, get_or}
+use Rattle.std.proofs.Common.{ap, sym, ◌∙◌, arith, eq-eqb, ne_eqb, eqb-true, get_or-drop}
 use Rattle.std.proofs.lemmas.Bool.{eqb-false}
 use Rattle.xml.specs.Bytes.{Bytes, bytes, same, same_by, is_start, is_name_byte, bytes_compute}
 use Rattle.xml.specs.Forest.{Forest, end, elem, join}
-use Rattle.xml.specs.Read.{common, name_len, times_len, tag_from, tag_len, tag_of, Tag, named, timed, tag_name, tag_node, Stack, inside, Move, move, wrong, start_of, start_tag, times_of, times_end, end_of, end_tag}
+use Rattle.xml.specs.Read.{common, name_len, times_len, Tag, named, timed, tag_name, tag_node, Stack, inside, Move, move, wrong, start_of, start_tag, times_of, times_end, end_of, end_tag}
 use Rattle.xml.specs.declared.Run.{Run}
 use Rattle.xml.specs.declared.Run.TheVariants.{Upto, Stop}
 use Rattle.xml.specs.declared.Start.{Start}
-use Rattle.xml.specs.declared.Start.TheVariants.{Opens, Lone, Timed, Off, Full}
+use Rattle.xml.specs.declared.Start.TheVariants.{Opens, Lone, Timed, Off}
 use Rattle.xml.specs.Truth.{by-test, and_left, and_right, and_both, and-false}
-use Rattle.xml.specs.Held.{tag_kind}
+use Rattle.xml.specs.Held.{tag_kind, tag_bytes}
 use Rattle.xml.specs.TimedTags.{is-timed, times_tag}
-use Rattle.xml.specs.ScanLaws.{name_len-cons, name_rest-off, common-off}
-use Rattle.xml.specs.TextLaws.{place}
-use Rattle.xml.specs.TagLaws.{tag-short, tag_len-range}
-use Rattle.xml.specs.StepLaws.{tag-upto, tag-stop, tag-none, tag_open, tag-bad, tag-times, tag-slash, tag-empty, times-bad, times-good, times-end-bad, times-end-good, end-good, end-bad, end_short}
+use Rattle.xml.specs.ScanLaws.{name_len-cons, name_len-fits, name_rest-off, common-off}
+use Rattle.xml.specs.StepLaws.{tag-none, tag_open, tag-bad, tag-times, tag-slash, tag-empty, times-bad, times-good, times-end-bad, times-end-good, end-good, end-bad, end_short}
 
 -- ---- the step that an answer stands for
 -- after `<T`: so many bytes of times, or a wrong byte
@@ -24,13 +22,12 @@ abbrev pub timed_by : Stack → Forest → Bytes → Run → Move
 timed_by st f s (Upto n) = move (inside (timed (take n (drop 4 s))) f st) end (7 + n)
 timed_by st f s (Stop k) = wrong k
 
--- after `<` (where there is no room for the names of its attributes, no step is told: TagsRead.antt says what that means)
+-- after `<`
 abbrev pub started_by : Stack → Forest → Bytes → Start → Move
-started_by st f s (Opens n) = move (inside (named (tag_of (take n s))) f st) end (1 + n)
-started_by st f s (Lone n) = move st (join f (elem (tag_of (take n s)) end end)) (2 + n)
+started_by st f s (Opens n) = move (inside (named (take n s)) f st) end (1 + n)
+started_by st f s (Lone n) = move st (join f (elem (take n s) end end)) (2 + n)
 started_by st f s (Timed n) = move (inside (timed (take n (drop 4 (drop 1 s)))) f st) end (7 + n)
 started_by st f s (Off k) = wrong k
-started_by st f s Full = wrong 0
 
 -- after `</`
 abbrev pub ended_by : Tag → Forest → Stack → Forest → Run → Move
@@ -50,14 +47,14 @@ Ends o s r = (g : Forest) (st : Stack) (f : Forest) → end_tag o g st f s ≡ e
 abbrev pub EndNamed : Bytes → Bytes → Run → Type 0
 EndNamed name s r = (o : Tag) → tag_name o ≡ name → Ends o s r
 
--- whichever tag has a node of this kind, with this name if it is an element's
+-- whichever tag has a node of this kind, named by these bytes
 abbrev pub EndRead : ℕ → Bytes → Bytes → Run → Type 0
-EndRead kind name s r = (o : Tag) → tag_kind o ≡ kind → (kind ≡ 1 → tag_name o ≡ name) → Ends o s r
+EndRead kind name s r = (o : Tag) → tag_kind o ≡ kind → tag_bytes o ≡ name → Ends o s r
 
--- ---- a start tag, by the length of what stands in it
-module _ (a : Bool) (s : Bytes) {n : ℕ} (len : Upto n ≡ tag_len a s) where
+-- ---- a start tag, by the length of its name
+module _ (a : Bool) (s : Bytes) {n : ℕ} (len : n ≡ name_len s) where
   by_length : (r : Start) → ((st : Stack) (f : Forest) → start_of a st f s n ≡ started_by st f s r) → StartRead a s r
-  by_length r h st f = tag-upto a st f s n (sym len) ∙ h st f
+  by_length r h st f = ap (start_of a st f s) (sym len) ∙ h st f
 
   pub start_none : n ≡ 0 → StartRead a s (Off 1)
   start_none z = by_length (Off 1) (λ st f. tag-none a st f s n z)
@@ -76,10 +73,7 @@ module _ (a : Bool) (s : Bytes) {n : ℕ} (len : Upto n ≡ tag_len a s) where
 
   pub start-times : (r : Run) → (n ≡ 0 → ⊥) → (get_or s n 0 ≡ code ">" → ⊥) → (get_or s n 0 ≡ code "/" → ⊥) → a && same (take n s) (bytes "T") ≡ true →
       TimesRead (drop 1 s) r → (st : Stack) (f : Forest) → start_tag a st f s ≡ timed_by st f (drop 1 s) r
-  start-times r z b d t h st f = tag-upto a st f s n (sym len) ∙ tag-times a st f s n z b d t ∙ h st f
-
-pub start-stop : (a : Bool) (s : Bytes) {k : ℕ} → Stop k ≡ tag_len a s → StartRead a s (Off (1 + k))
-start-stop a s {k} len st f = tag-stop a st f s k (sym len)
+  start-times r z b d t h st f = ap (start_of a st f s) (sym len) ∙ tag-times a st f s n z b d t ∙ h st f
 
 -- is the name T, in an archive?
 first-name : (s : Bytes) → get_or s 0 0 ≡ code "T" → same (take 1 s) (bytes "T") ≡ true
@@ -132,17 +126,16 @@ module _ (a : Bool) (s : Bytes) where
       let two = and_right a (eqb (get_or s 0 0) (code "T") && eqb (get_or s 1 0) (code " ")) e in
       let t = eqb-true (get_or s 0 0) (code "T") (and_left (eqb (get_or s 0 0) (code "T")) (eqb (get_or s 1 0) (code " ")) two) in
       let p : get_or s 1 0 ≡ 32 = eqb-true (get_or s 1 0) (code " ") (and_right (eqb (get_or s 0 0) (code "T")) (eqb (get_or s 1 0) (code " ")) two) in
-      let name = timed-name a s 1 (and_left a (eqb (get_or s 0 0) (code "T") && eqb (get_or s 1 0) (code " ")) e) refl t in
-      let len : Upto 1 ≡ tag_len a s = sym (ap (tag_from a s) (sym (times-name s t p)) ∙ tag-short a s 1 name) in
-      start-times a s len r (λ z. omega arith) (λ z. let q : get_or s 1 0 ≡ 62 = z in omega arith) (λ z. let q : get_or s 1 0 ≡ 47 = z in omega arith) name h
+      start-times a s (times-name s t p) r (λ z. omega arith) (λ z. let q : get_or s 1 0 ≡ 62 = z in omega arith) (λ z. let q : get_or s 1 0 ≡ 47 = z in omega arith)
+      (timed-name a s 1 (and_left a (eqb (get_or s 0 0) (code "T") && eqb (get_or s 1 0) (code " ")) e) refl t) h
 
   -- of the others none but an element's goes on
-  pub start-other : {n : ℕ} → Upto n ≡ tag_len a s → (n ≡ 0 → ⊥) → (get_or s n 0 ≡ code ">" → ⊥) → (get_or s n 0 ≡ code "/" → ⊥) → Begins false → StartRead a s (Off (1 + n))
+  pub start-other : {n : ℕ} → n ≡ name_len s → (n ≡ 0 → ⊥) → (get_or s n 0 ≡ code ">" → ⊥) → (get_or s n 0 ≡ code "/" → ⊥) → Begins false → StartRead a s (Off (1 + n))
   start-other {n} len z b d e = by-test (a && same (take n s) (bytes "T")) named-T (λ t. start-bad a s len z b d t)
     where
       named-T : a && same (take n s) (bytes "T") ≡ true → StartRead a s (Off (1 + n))
       named-T t st f =
-          let i = is-timed a s n (subst (λ (r : Run). place r ≤ length s) (sym len) (tag_len-range a s).1) t in
+          let i = is-timed a s n (omega (arith, name_len-fits s)) t in
           let o = i.one in
           let c : get_or s 0 0 ≡ code "T" = ap (λ (x : Bytes). get_or x 0 0) i.is in
           let p : eqb (get_or s 1 0) (code " ") ≡ false = and-false (eq-eqb (get_or s 0 0) (code "T") c) (and-false i.archive e) in
@@ -170,5 +163,5 @@ end-times s name r kind z h (named n) k b = let x : ◌≡◌ {A = ℕ} 1 2 = k 
 end-times s name r kind z h (timed t) k b = h (timed t) refl
 
 pub end-element : (s name : Bytes) (r : Run) (kind : ℕ) → (kind ≡ 2 → ⊥) → EndNamed name s r → EndRead kind name s r
-end-element s name r kind z h (named n) k b = h (named n) (b (sym k))
+end-element s name r kind z h (named n) k b = h (named n) b
 end-element s name r kind z h (timed t) k b = absurd (z (sym k))

@@ -1,18 +1,17 @@
 -- Which bytes a value may have, by comparing; and a value's scan at places of a text.
 use Rattle.std.specs.Prelude.{ℕ, ◌+◌, ◌-◌, ◌≤◌, ◌<◌, ◌≡◌, refl, Bool, ◌&&◌, ◌||◌, leb, length, drop, get_or}
 use Prim.Native.Char.{code}
-use native.Mathlib.Omega.{arith}
-use Rattle.std.proofs.Common.{ap, sym, ◌∙◌, subst, length-drop, drop_of_length-le, drop-drop}
+use Rattle.std.proofs.Common.{arith, ap, sym, ◌∙◌, subst, length-drop, drop_of_length-le, drop-drop}
 use Rattle.std.proofs.Math.Bool.{true, false, not}
-use borrow.Author.Tests.{ne_eqb, le-leb, lt-leb, leb-true, leb-false}
+use borrow.Author.Tests.{ne_eqb, lt-leb, leb-true, leb-false}
 use Rattle.std.proofs.Math.Dec.{eqb}
 use Rattle.xml.specs.Bytes.{Bytes, among, within, is_letter, is_digit, is_character, illegal, white, start, other, markup, plain}
-use Rattle.xml.specs.Tags.{is_quote, in_value, tags_compute}
+use Rattle.xml.specs.Tags.{in_value, tags_compute}
 use Rattle.xml.specs.Read.{value_byte, value}
-use Rattle.xml.specs.Truth.{by-test, clash, both, and_left, and_right, and-false, neither, or-second}
+use Rattle.xml.specs.Truth.{by-test, clash, both, and_left, and-false, neither, or-second}
 use Rattle.xml.specs.GrammarLaws.{class_by, legal-character, lt-markup}
 use Rattle.xml.specs.TextLaws.{at-cons}
-use Rattle.xml.specs.Values.{ValueCase, over, hit, miss, plain as value-plain, off, value-case, value-kept, by-quote, value_turn, value-cons, value-skip, found-fits}
+use Rattle.xml.specs.Values.{ValueCase, over, hit, miss, plain as value-plain, off, value-case, value_turn, value-cons, value-skip, found-fits}
 use Rattle.xml.specs.declared.Found.TheVariants.{Hit, Miss}
 use Rattle.xml.specs.declared.Next.{Next}
 use Rattle.xml.specs.declared.Next.TheVariants.{Over, On, Off}
@@ -90,16 +89,6 @@ module _ (q b : ℕ) where
 
   pub in-less : b ≡ code "<" → is_character b && in_value q b ≡ false
   in-less e = not-and (is_character b) (in_value q b) (ap is_character e ∙ lt-markup)
-
-  -- a value goes on after a small letter, which is no quote
-  pub value-small : (s : Bytes) → is_quote q ≡ true → within 0x61 0x7A b ≡ true → value_byte q b s ≡ On 0 0
-  unfolding within
-  value-small s h e =
-      let l : 97 ≤ b = leb-true 97 b (and_left (leb 97 b) (leb b 122) e) in
-      let g : b ≤ 122 = leb-true b 122 (and_right (leb 97 b) (leb b 122) e) in
-      let n : b ≡ q → ⊥ = by-quote (λ (x : ℕ). b ≡ x → ⊥) q h (λ x. omega arith) (λ x. omega arith) in
-      let amp : b ≡ code "&" → ⊥ = λ x. omega arith in
-      value-kept q b s n amp (in-plain (both (le-leb 32 b (omega arith)) (le-leb b 126 (omega arith))) (λ x. omega arith) amp n)
 
 -- ---- a scan that has come to j
 pub record Passed (src : Bytes) (at q j : ℕ) : Type 0 where

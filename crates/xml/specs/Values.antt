@@ -122,7 +122,7 @@ value-range q zero n (b ∷ s) h = turn (value_byte q b s) (value-case q b s) (�
     turn o (off x y z) f = omega arith
 
 -- ---- a value is scanned
-pub all_both : (f : ℕ → Bool) (s t : Bytes) → all f (s ++ t) ≡ true → (all f s ≡ true) × (all f t ≡ true)
+all_both : (f : ℕ → Bool) (s t : Bytes) → all f (s ++ t) ≡ true → (all f s ≡ true) × (all f t ≡ true)
 unfolding all
 all_both f [] t e = (refl, e)
 all_both f (b ∷ s) t e =

@@ -1,6 +1,6 @@
 -- What the writers' functions ask, and the laws of a writer on its way.
 use Rattle.std.specs.Prelude.{ℕ, ◌+◌, ◌-◌, ◌%◌, ◌^◌, ◌<◌, ◌≤◌, min, ◌≡◌, refl, List, [], ◌∷◌, ◌++◌, true, false, eqb, leb, length, take, drop, get_or, set}
-use Rattle.std.proofs.Common.{ap, sym, ◌∙◌, append-nil, append_assoc, arith, add-one, leb-true, leb-false, length-append, take-append-drop, take-suc, take-add, length-take-le}
+use Rattle.std.proofs.Common.{ap, sym, ◌∙◌, append-nil, append_assoc, arith, add-one, leb-true, leb-false, length-append, take-suc, take-add, length-take-le}
 use Rattle.std.proofs.Math.Seq.{slice, length-slice}
 use Rattle.std.proofs.lemmas.List.{drop-append-le}
 use Rattle.xml.specs.Bytes.{Bytes}
@@ -12,7 +12,7 @@ use Rattle.xml.specs.declared.text.Sign.{Sign}
 use Rattle.xml.specs.Over.{over_at, Wrote}
 use Rattle.xml.specs.OverLaws.{length_at, at-past, at_set, at-then, wrote_none, wrote_then}
 use Rattle.xml.specs.Tape.{head_at, next_at, Tape, Valid, Writes}
-use Rattle.xml.specs.TapeLaws.{slice-part, bytes_at, opening, Inner, OneRun, Rest, split, text-node, length-write, meant_at}
+use Rattle.xml.specs.TapeLaws.{slice-part, bytes_at, opening, Inner, OneRun, Rest, split, text-node, length-write}
 
 -- the nodes lo to hi are a forest, and a word holds the place after it
 pub record Fit (src cells : List ℕ) (lo hi at : ℕ) : Type 0 where
@@ -69,12 +69,6 @@ slice-split a m n l h k =
     let g : a ≤ length (take m l) = rw (length-take-le m l k) h in
     ap (drop a) (take-add m n l) ∙ drop-append-le a (take m l) (take n (drop m l)) g ∙ ap (λ (x : List ℕ). slice a m l ++ x) (sym (slice-part m n l))
 
--- what stands from a place on is a part and what comes after it
-pub drop-split : (a e : ℕ) (l : List ℕ) → a ≤ e → e ≤ length l → drop a l ≡ slice a e l ++ drop e l
-drop-split a e l h k =
-    let n : a ≤ length (take e l) = rw (length-take-le e l k) h in
-    ap (drop a) (sym (take-append-drop e l)) ∙ drop-append-le a (take e l) (drop e l) n
-
 -- ---- a part that is copied byte by byte, as many as fit
 module _ (out src : List ℕ) (at a e : ℕ) (h : a ≤ e) (k : e ≤ length src) where
   pub part_step : (from i : ℕ) (mid : List ℕ) → a + i < e → mid ≡ over_at out from (slice a (a + i) src)
@@ -126,7 +120,7 @@ module _ {src cells : List ℕ} where
 
   -- the room for a node's inside, once its opening tag is written
   pub inner-fit : {p at to : ℕ} {out left : List ℕ} → (g : Fit src cells p (next_at cells p) at) → Inner src cells p g.forest
-      → Wrote out at (opening (eqb (head_at cells p % 4) 1) (meant_at src cells p)) to left → Fit src cells (p + 1) (next_at cells p) to
+      → Wrote out at (opening (eqb (head_at cells p % 4) 1) (bytes_at src cells p)) to left → Fit src cells (p + 1) (next_at cells p) to
   inner-fit g i w =
       record { forest = i.kids; tape = i.tape; room = omega (arith, g.room, w.place, simp length-append at (ap length i.written)) }
 

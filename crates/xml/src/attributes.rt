@@ -6,20 +6,17 @@ ghost use Rattle.xml.specs.Read.{name_len, value_byte, value};
 ghost use Rattle.xml.specs.NameCells.{NameCells, SomeNames, Below};
 ghost use Rattle.xml.specs.AttrPlaces.{attr_named, AttrsRead};
 
-use crate::class::{is_printed, is_small};
+use crate::class::is_printed;
 use crate::names::{is_noted, note};
 use crate::scan::{byte_at, entity_at, name_len};
 use crate::{Extent, Found, Next, Run};
 
-// What a byte of an attribute's value means, between quotes q; most are small letters, and go on.
+// What a byte of an attribute's value means, between quotes q.
 fn value_byte(src: &[u8], at: usize, q: u8) -> Next
-    requires { (at < length src.now) × (is_quote q ≡ true) }
+    requires { at < length src.now }
     ensures { result ≡ value_byte q (get_or src.now at 0) (drop (at + 1) src.now) }
 {
     let b = src[at];
-    if is_small(b) {
-        return Next::On(0, 0);
-    }
     if b == q {
         return Next::Over;
     }
@@ -40,7 +37,7 @@ fn value_byte(src: &[u8], at: usize, q: u8) -> Next
 
 // How far a value goes, between quotes q: its length; or the offset of the wrong byte in it.
 fn value_run(src: &[u8], at: usize, q: u8) -> Run
-    requires { (at ≤ length src.now) × (is_quote q ≡ true) }
+    requires { at ≤ length src.now }
     ensures { result ≡ value q 0 0 (drop at src.now) }
 {
     let mut j = at;

@@ -6,13 +6,10 @@ ghost use Rattle.xml.specs.Bytes.{all, same, is_white};
 ghost use Rattle.xml.specs.Read.{unescape};
 ghost use Rattle.xml.specs.Forest.{Forest, same_forest};
 ghost use Rattle.xml.specs.Signs.{spelt};
-ghost use Rattle.xml.specs.SameTapes.{Parts};
-ghost use Rattle.xml.specs.TagParts.{IsTag};
+ghost use Rattle.xml.specs.SameTapes.{Parts, meaning};
 ghost use Rattle.xml.specs.Tape.{Tape, Valid};
-ghost use Rattle.xml.specs.TapeLaws.{meaning};
 
 use crate::class::is_white_byte;
-use crate::tag::same_tags;
 use crate::tape::view_at;
 use crate::text::{plain_end, sign_at};
 use crate::writer::{least, put_text};
@@ -162,9 +159,9 @@ pub fn same_run(src1: &[u8], a1: usize, e1: usize, src2: &[u8], a2: usize, e2: u
     e2 <= j
 }
 
-// The parts that name two nodes of one kind mean the same: runs of text, tags, or times.
+// The parts that name two nodes, both runs of text or both names or times, mean the same.
 fn same_meaning(
-    kind: u32,
+    run: bool,
     src1: &[u8],
     a1: usize,
     e1: usize,
@@ -172,15 +169,11 @@ fn same_meaning(
     a2: usize,
     e2: usize,
 ) -> bool
-    requires { Parts src1.now a1 e1 src2.now a2 e2 × (e1 - a1 ≤ 32768) × (e2 - a2 ≤ 32768)
-        × (kind ≡ 1 → IsTag (slice a1 e1 src1.now) × IsTag (slice a2 e2 src2.now)) }
-    ensures { result ≡ same (meaning kind (slice a1 e1 src1.now)) (meaning kind (slice a2 e2 src2.now)) }
+    requires { Parts src1.now a1 e1 src2.now a2 e2 }
+    ensures { result ≡ same (meaning run (slice a1 e1 src1.now)) (meaning run (slice a2 e2 src2.now)) }
 {
-    if kind == 0 {
+    if run {
         return same_run(src1, a1, e1, src2, a2, e2);
-    }
-    if kind == 1 {
-        return same_tags(&src1[a1..e1], &src2[a2..e2]);
     }
     same_bytes(src1, a1, e1, src2, a2, e2)
 }
@@ -215,7 +208,7 @@ pub fn same_nodes(
         if v.next - i != w.next - j {
             return false;
         }
-        if !same_meaning(v.kind, src1, v.start, v.end, src2, w.start, w.end) {
+        if !same_meaning(v.kind == 0, src1, v.start, v.end, src2, w.start, w.end) {
             return false;
         }
         i += 1;

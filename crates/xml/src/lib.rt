@@ -1,4 +1,6 @@
 // The XML subset: what a reader's functions answer. The definitions are in specs/.
+#![tactic(auto)]
+
 pub mod attributes;
 pub mod class;
 pub mod compare;
@@ -43,15 +45,14 @@ pub enum Extent {
     Full,
 }
 
-// A start tag: it opens an element, or is one without content, with so many bytes of a name and attributes; it opens an archive's `T`, with
-// so many bytes of times; the byte so many bytes after the `<` is wrong; or there is no room for the names of its attributes.
+// A start tag: it opens an element, or is one without content, with a name so many bytes long; it opens an archive's `T`, with so many
+// bytes of times; or the byte so many bytes after the `<` is wrong.
 #[derive(Drop)]
 pub enum Start {
     Opens(usize),
     Lone(usize),
     Timed(usize),
     Off(usize),
-    Full,
 }
 
 // One step of the reader: the place, the number of nodes and the innermost open node after it; the place of a wrong byte; or no room.

@@ -1,21 +1,16 @@
 // Comparing a text with what its tape is written as: the writer's walk over the nodes, which compares where the writer writes.
 // Each function is handed the place where something is to stand, and answers the place after it; or, where it does not stand there, a place
 // past the end of the text, where nothing stands.
-ghost use Rattle.std.specs.Prelude.{◌≡◌, true, [], ◌∷◌, ◌+◌, ◌%◌, ◌<◌, ◌≤◌, length};
+ghost use Rattle.std.specs.Prelude.{◌≡◌, [], ◌∷◌, ◌+◌, ◌%◌, ◌^◌, ◌<◌, ◌≤◌, length};
 ghost use Rattle.std.proofs.Math.Seq.{slice};
 ghost use Rattle.xml.specs.Bytes.{same};
 ghost use Rattle.xml.specs.Forest.{Forest, escape, write as written};
 ghost use Rattle.xml.specs.Matching.{match_at, Matches};
-ghost use Rattle.xml.specs.Read.{means, tag_of};
 ghost use Rattle.xml.specs.Signs.{spelt};
-ghost use Rattle.xml.specs.TagParts.{IsTag, attr_in, quoted};
-ghost use Rattle.xml.specs.TagPlaces.{PartIn};
-ghost use Rattle.xml.specs.Tags.{escape_value, attr_text};
 ghost use Rattle.xml.specs.Tape.{head_at, next_at, Tape, Valid};
-ghost use Rattle.xml.specs.TapeLaws.{opening, closing, meant_by};
+ghost use Rattle.xml.specs.TapeLaws.{opening, closing};
 
 use crate::scan::same;
-use crate::tag::{Part, is_written, name_end, note_attrs, part_at, place_of};
 use crate::tape::view_at;
 use crate::text::{plain_end, sign_at};
 
@@ -77,85 +72,18 @@ fn match_text(src: &[u8], at: usize, a: usize, e: usize) -> usize
     to
 }
 
-// A byte of a value.
-fn match_quoted(src: &[u8], at: usize, b: u8) -> usize
-    requires { (at ≤ length src.now + 1) × (length src.now ≤ 32768) }
-    ensures { result ≡ match_at src.now at (escape_value (b ∷ [])) }
-{
-    if b == b'&' {
-        return match_word(src, at, b"&amp;");
-    }
-    if b == b'<' {
-        return match_word(src, at, b"&lt;");
-    }
-    if b == b'"' {
-        return match_word(src, at, b"&quot;");
-    }
-    match_word(src, at, &[b])
-}
-
-// What the value s[a..e] means.
-fn match_value(src: &[u8], at: usize, s: &[u8], a: usize, e: usize) -> usize
-    requires { (at ≤ length src.now + 1) × (length src.now ≤ 32768) × (a ≤ e) × (e ≤ length s.now) }
-    ensures { result ≡ match_at src.now at (quoted (slice a e s.now)) }
-{
-    let mut i = a;
-    let mut to = at;
-    while i < e {
-        let g = sign_at(s, i, e);
-        to = match_quoted(src, to, g.byte);
-        i = g.next;
-    }
-    to
-}
-
-// The attribute at a place of a tag: its space, name and `=` as they stand, and its value in `"`.
-fn match_attr(src: &[u8], at: usize, s: &[u8], i: usize, p: Part) -> usize
-    requires { (at ≤ length src.now + 1) × (length src.now ≤ 32768) × PartIn s.now i p }
-    ensures { result ≡ match_at src.now at (attr_text (means (attr_in s.now i p) ∷ [])) }
-{
-    let end = p.equals + 1;
-    let quote = match_word(src, at, &s[i..end]);
-    let value = match_word(src, quote, b"\"");
-    let last = match_value(src, value, s, p.equals + 2, p.end);
-    match_word(src, last, b"\"")
-}
-
-// The tag that raw bytes mean: the name, and the attributes by ascending names.
-fn match_attrs(src: &[u8], at: usize, s: &[u8]) -> usize
-    requires { (at ≤ length src.now + 1) × (length src.now ≤ 32768) × IsTag s.now × (length s.now ≤ 32768) }
-    ensures { result ≡ match_at src.now at (tag_of s.now) }
-{
-    let mut cells = [0u32; 8];
-    let n = note_attrs(s, &mut cells);
-    let count = name_end(s);
-    let mut to = match_word(src, at, &s[0..count]);
-    let mut k = 0;
-    let mut i = place_of(s, &cells, n, 0, 0, 0);
-    while i < s.len() {
-        let p = part_at(s, i);
-        to = match_attr(src, to, s, i, p);
-        k += 1;
-        i = place_of(s, &cells, n, k, i + 1, p.equals);
-    }
-    to
-}
-
-// What is written in the start tag of an element, which src[a..e] spells: most often as it is written.
+// What stands in the start tag of an element, whose name is src[a..e].
 fn match_tag(src: &[u8], at: usize, a: usize, e: usize) -> usize
-    requires { (at ≤ length src.now + 1) × (length src.now ≤ 32768) × (a ≤ e) × (e ≤ length src.now) × IsTag (slice a e src.now) }
-    ensures { result ≡ match_at src.now at (tag_of (slice a e src.now)) }
+    requires { (at ≤ length src.now + 1) × (length src.now ≤ 32768) × (a ≤ e) × (e ≤ length src.now) }
+    ensures { result ≡ match_at src.now at (slice a e src.now) }
 {
-    if is_written(&src[a..e]) {
-        return match_part(src, at, a, e);
-    }
-    match_attrs(src, at, &src[a..e])
+    match_part(src, at, a, e)
 }
 
-// The opening tag of an element, or of an archive's `T`, whose tag or times are spelled by src[a..e].
+// The opening tag of an element, or of an archive's `T`, whose name or times are src[a..e].
 fn match_open(element: bool, src: &[u8], a: usize, e: usize, at: usize) -> usize
-    requires { (at ≤ length src.now + 1) × (length src.now ≤ 32768) × (a ≤ e) × (e ≤ length src.now) × (element ≡ true → IsTag (slice a e src.now)) }
-    ensures { result ≡ match_at src.now at (opening element (meant_by element (slice a e src.now))) }
+    requires { (at ≤ length src.now + 1) × (length src.now ≤ 32768) × (a ≤ e) × (e ≤ length src.now) }
+    ensures { result ≡ match_at src.now at (opening element (slice a e src.now)) }
 {
     if element {
         let name = match_word(src, at, b"<");
@@ -169,13 +97,12 @@ fn match_open(element: bool, src: &[u8], a: usize, e: usize, at: usize) -> usize
 
 // Its closing tag.
 fn match_close(element: bool, src: &[u8], a: usize, e: usize, at: usize) -> usize
-    requires { (at ≤ length src.now + 1) × (length src.now ≤ 32768) × (a ≤ e) × (e ≤ length src.now) × (element ≡ true → IsTag (slice a e src.now)) }
-    ensures { result ≡ match_at src.now at (closing element (meant_by element (slice a e src.now))) }
+    requires { (at ≤ length src.now + 1) × (length src.now ≤ 32768) × (a ≤ e) × (e ≤ length src.now) }
+    ensures { result ≡ match_at src.now at (closing element (slice a e src.now)) }
 {
     if element {
         let name = match_word(src, at, b"</");
-        let count = name_end(&src[a..e]);
-        let last = match_part(src, name, a, a + count);
+        let last = match_part(src, name, a, e);
         return match_word(src, last, b">");
     }
     match_word(src, at, b"</T>")
@@ -219,7 +146,7 @@ fn match_content(src: &[u8], tape: &[u32], lo: usize, hi: usize, at: usize) -> u
 
 // Whether a text is exactly what the nodes of its tape are written as.
 pub fn matches(src: &[u8], tape: &[u32], hi: usize) -> bool
-    requires { Valid src.now tape.now 0 hi × (length src.now ≤ 32768) }
+    requires { Valid src.now tape.now 0 hi × (hi ≤ 2 ^ 32) × (length src.now ≤ 32768) }
     ensures { (f : Forest) → Tape src.now tape.now 0 hi f → result ≡ same src.now (written f) }
 {
     match_content(src, tape, 0, hi, 0) == src.len()

@@ -1,11 +1,11 @@
 // The names of a tag's attributes while it is read: one free cell of the tape a name, in ascending order of the names, so that a name is
 // found by halving.
-ghost use Rattle.std.specs.Prelude.{◌≡◌, false, List, ◌∷◌, ℕ, ◌+◌, ◌<◌, ◌≤◌, length};
+ghost use Rattle.std.specs.Prelude.{◌≡◌, false, List, ◌∷◌, ◌+◌, ◌<◌, ◌≤◌, length};
 ghost use Rattle.std.proofs.Math.Seq.{slice};
 ghost use Rattle.xml.specs.Bytes.{Bytes, any, same};
 ghost use Rattle.xml.specs.Tags.{less};
 ghost use Rattle.xml.specs.SameTapes.{Parts};
-ghost use Rattle.xml.specs.NameCells.{cell_of, name_in, InText, NameCells, SomeNames, Parted, Shifted, Put, Below};
+ghost use Rattle.xml.specs.NameCells.{name_in, InText, NameCells, SomeNames, Parted, Shifted, Below};
 
 use crate::compare::same_bytes;
 
@@ -41,17 +41,11 @@ fn cell_precedes(src: &[u8], cell: u32, name: &[u8]) -> bool
     precedes(src, start, end, name, 0, name.len())
 }
 
-// How many of the noted names come before a name: found by halving. A name after the last noted one, the common case, is told by one
-// comparison.
+// How many of the noted names come before a name: found by halving.
 fn names_before(src: &[u8], cells: &[u32], base: usize, k: usize, name: &[u8]) -> usize
     requires { SomeNames src.now cells.now base k }
     ensures { Parted src.now cells.now base k name.now result result }
 {
-    if 0 < k {
-        if cell_precedes(src, cells[base + k - 1], name) {
-            return k;
-        }
-    }
     let mut lo = 0;
     let mut hi = k;
     while lo < hi {
@@ -96,10 +90,9 @@ fn shift(cells: &mut [u32], lo: usize, hi: usize)
 pub(crate) fn note(src: &[u8], cells: &mut [u32], base: usize, k: usize, start: usize, count: usize)
     requires { SomeNames src.now cells.old base k × (base + k < length cells.old) × (start + count ≤ length src.now) × (count ≤ 32) × (length src.now ≤ 32768)
         × ((used : List Bytes) → NameCells src.now cells.old base k used → any (same (slice start (start + count) src.now)) used ≡ false) }
-    ensures* { λ r. ⌜ ((used : List Bytes) → NameCells src.now cells.old base k used
+    ensures { ((used : List Bytes) → NameCells src.now cells.old base k used
         → NameCells src.now cells.new base (k + 1) (slice start (start + count) src.now ∷ used))
-        × Below cells.old cells.new base
-        × ((r : ℕ) × Put cells.old base k r (cell_of start count) cells.new) ⌝ }
+        × Below cells.old cells.new base }
 {
     let end = start + count;
     let at = base + names_before(src, cells, base, k, &src[start..end]);

@@ -48,7 +48,7 @@ fn characters(
     top: usize,
 ) -> Step
     requires { Running archive src.now tape.old at count top }
-    ensures { Stepped archive src.now at count tape.new result }
+    ensures { Stepped archive src.now tape.old at count tape.new result }
 {
     match text_run(src, at) {
         Run::Stop(k) => Step::Bad(at + k),
@@ -66,10 +66,9 @@ fn open_tag(
     top: usize,
 ) -> Step
     requires { Opening archive src.now tape.old at count top }
-    ensures { Stepped archive src.now at count tape.new result }
+    ensures { Stepped archive src.now tape.old at count tape.new result }
 {
-    match start_tag(src, archive, at + 1, tape, 2 * count) {
-        Start::Full => Step::Full,
+    match start_tag(src, archive, at + 1) {
         Start::Off(k) => Step::Bad(at + k),
         Start::Opens(n) => node(tape, count, head(at + 1, n, 1), top, at + 2 + n, count + 1),
         Start::Lone(n) => node(tape, count, head(at + 1, n, 1), count + 1, at + 3 + n, top),
@@ -87,7 +86,7 @@ fn close_tag(
     top: usize,
 ) -> Step
     requires { Ending archive src.now tape.old at count top }
-    ensures { Stepped archive src.now at count tape.new result }
+    ensures { Stepped archive src.now tape.old at count tape.new result }
 {
     let v = view_at(tape, top - 1);
     match end_tag(src, at + 2, v.start, v.end, v.kind) {
@@ -102,7 +101,7 @@ fn close_tag(
 // The token at `at`: text or a tag in an open node; white space or the root's tag outside.
 fn advance(src: &[u8], archive: bool, tape: &mut [u32], at: usize, count: usize, top: usize) -> Step
     requires { Here archive src.now tape.old at count top }
-    ensures { Stepped archive src.now at count tape.new result }
+    ensures { Stepped archive src.now tape.old at count tape.new result }
 {
     let b = src[at];
     if b != b'<' {
@@ -127,7 +126,7 @@ fn advance(src: &[u8], archive: bool, tape: &mut [u32], at: usize, count: usize,
 // Reads a text onto the tape: a version's, or an archive's, whose `T` tags have their times.
 pub fn read(src: &[u8], archive: bool, tape: &mut [u32]) -> Reply
     requires { length src.now ≤ 32768 }
-    ensures { Replied archive src.now tape.new result }
+    ensures { Replied archive src.now tape.old tape.new result }
 {
     let mut at = 0;
     let mut count = 0;

@@ -1,23 +1,17 @@
 // The scanner: how far a token of a text goes. It reads the text alone.
-ghost use Rattle.std.specs.Prelude.{◌≡◌, Bool, true, false, not, ℕ, ◌+◌, ◌<◌, ◌≤◌, max, length, drop, get_or};
+ghost use Rattle.std.specs.Prelude.{◌≡◌, true, false, not, ℕ, ◌+◌, ◌<◌, ◌≤◌, max, length, drop, get_or};
 ghost use Rattle.std.proofs.Math.Seq.{slice};
 ghost use Rattle.xml.specs.ByteTests.{is_plain};
 ghost use Rattle.xml.specs.Bytes.{is_times};
 ghost use Rattle.xml.specs.Read.{common, name_rest, name_len, times_len, entity_at, text_byte, scan as scanned};
 ghost use Rattle.xml.specs.Stretch.{Each, Passed, Times, brackets_after};
-ghost use Rattle.xml.specs.NameCells.{Below};
-ghost use Rattle.xml.specs.Tags.{name_of};
-ghost use Rattle.xml.specs.TagParts.{IsTag};
-ghost use Rattle.xml.specs.Tokens.{begins_times, TimesRead, EndRead, EndNamed};
-ghost use Rattle.xml.specs.TagsRead.{Named, TagRead, TagLong, Begun, Started};
+ghost use Rattle.xml.specs.Tokens.{begins_times, TimesRead, StartRead, EndRead, EndNamed};
 
-use crate::attributes::attributes;
 use crate::class::{
     class, is_digit, is_markup, is_name_byte, is_name_start, is_printed, is_small, is_white_byte,
 };
-use crate::tag::name_end;
 use crate::writer::least;
-use crate::{Extent, Found, Next, Run, Start};
+use crate::{Found, Next, Run, Start};
 
 // The byte at a place; the end of the text counts as a byte 0.
 pub fn byte_at(src: &[u8], i: usize) -> u8
@@ -342,51 +336,10 @@ fn begins_times(src: &[u8], archive: bool, at: usize) -> bool
     byte_at(src, at + 1) == b' '
 }
 
-// How far what stands in a start tag goes, whose name has n bytes: the attributes are read if a space stands after the name, and their names
-// are noted in the cells from `base` on.
-fn tag_extent(src: &[u8], at: usize, n: usize, cells: &mut [u32], base: usize) -> Extent
-    requires { (at + n ≤ length src.now) × (length src.now ≤ 32768) × (base ≤ length cells.old) × (n ≡ name_len (drop at src.now)) }
-    ensures { Below cells.old cells.new base
-        × ((a : Bool) → Named a src.now at n → TagRead a (drop at src.now) (length cells.old) base result) }
-{
-    if byte_at(src, at + n) != b' ' {
-        return Extent::Upto(n);
-    }
-    match attributes(src, at + n, cells, base) {
-        Extent::Upto(k) => Extent::Upto(n + k),
-        Extent::Stop(k) => Extent::Stop(n + k),
-        Extent::Full => Extent::Full,
-    }
-}
-
-// What ends a start tag, in which n bytes stand.
-fn tag_end(src: &[u8], at: usize, n: usize) -> Start
-    requires { (at + n ≤ length src.now) × (length src.now ≤ 32768) }
-    ensures { (a : Bool) → TagLong a src.now at n → Begun a (drop at src.now) result }
-{
-    let b = byte_at(src, at + n);
-    if b == b'>' {
-        return Start::Opens(n);
-    }
-    if b != b'/' {
-        return Start::Off(1 + n);
-    }
-    if byte_at(src, at + n + 1) != b'>' {
-        return Start::Off(2 + n);
-    }
-    Start::Lone(n)
-}
-
-// A start tag after its `<`. The names of its attributes are noted in the cells from `base` on.
-pub(crate) fn start_tag(
-    src: &[u8],
-    archive: bool,
-    at: usize,
-    cells: &mut [u32],
-    base: usize,
-) -> Start
-    requires { (at ≤ length src.now) × (length src.now ≤ 32768) × (base ≤ length cells.old) }
-    ensures { Below cells.old cells.new base × Started archive (drop at src.now) (length cells.old) base result }
+// A start tag after its `<`.
+pub(crate) fn start_tag(src: &[u8], archive: bool, at: usize) -> Start
+    requires { at ≤ length src.now }
+    ensures { StartRead archive (drop at src.now) result }
 {
     if begins_times(src, archive, at) {
         match times_tag(src, at + 1) {
@@ -398,11 +351,17 @@ pub(crate) fn start_tag(
     if n == 0 {
         return Start::Off(1);
     }
-    match tag_extent(src, at, n, cells, base) {
-        Extent::Upto(m) => tag_end(src, at, m),
-        Extent::Stop(k) => Start::Off(1 + k),
-        Extent::Full => Start::Full,
+    let b = byte_at(src, at + n);
+    if b == b'>' {
+        return Start::Opens(n);
     }
+    if b != b'/' {
+        return Start::Off(1 + n);
+    }
+    if byte_at(src, at + n + 1) != b'>' {
+        return Start::Off(2 + n);
+    }
+    Start::Lone(n)
 }
 
 // An end tag after its `</`: a name, and `>`.
@@ -422,12 +381,11 @@ fn end_name(src: &[u8], at: usize, name: &[u8]) -> Run
 
 // An end tag after its `</`, of what is open: of this kind, named by the bytes start to end.
 pub(crate) fn end_tag(src: &[u8], at: usize, start: usize, end: usize, kind: u32) -> Run
-    requires { (at ≤ length src.now) × (start ≤ end) × (end ≤ length src.now) × (length src.now ≤ 32768) × ((kind ≡ 2 → ⊥) → IsTag (slice start end src.now)) }
-    ensures { EndRead kind (name_of (slice start end src.now)) (drop at src.now) result }
+    requires { (at ≤ length src.now) × (start ≤ end) × (end ≤ length src.now) }
+    ensures { EndRead kind (slice start end src.now) (drop at src.now) result }
 {
     if kind == 2 {
         return end_name(src, at, b"T");
     }
-    let name = name_end(&src[start..end]);
-    end_name(src, at, &src[start..start + name])
+    end_name(src, at, &src[start..end])
 }

@@ -2,24 +2,23 @@
 // Counts tell it, and a count has no branches: the compiler makes vector instructions of a block's loop.
 ghost use Rattle.std.specs.Prelude.{◌≡◌, Bool, ◌||◌, ◌+◌, ◌*◌, ◌≤◌, length, drop};
 ghost use Rattle.xml.specs.Bytes.{same};
-ghost use Rattle.xml.specs.Forest.{Forest, nodes, write as written};
+ghost use Rattle.xml.specs.Forest.{Forest, write as written};
 ghost use Rattle.xml.specs.Read.{read, whole};
 ghost use Rattle.xml.specs.Tape.{Tape, Valid};
-ghost use Rattle.xml.specs.Neat.{count, is_other, others, kind_below};
+ghost use Rattle.xml.specs.Neat.{count, is_other, others, tags_below};
 
 use crate::class::is_white_byte;
-use crate::matching::matches;
 use crate::scan::byte_at;
 
-// How many of the nodes below hi are of a kind.
-fn count_kind(tape: &[u32], hi: usize, kind: u32) -> usize
+// How many of the nodes below hi are no runs of text.
+fn count_tags(tape: &[u32], hi: usize) -> usize
     requires { 2 * hi ≤ length tape.now }
-    ensures { (result ≡ kind_below kind tape.now hi) × (result ≤ hi) }
+    ensures { (result ≡ tags_below tape.now hi) × (result ≤ hi) }
 {
     let mut n = 0;
     let mut i = 0;
     while i < hi {
-        n += if tape[2 * i] % 4 == kind { 1 } else { 0 };
+        n += if tape[2 * i] % 4 == 0 { 0 } else { 1 };
         i += 1;
     }
     n
@@ -112,17 +111,12 @@ fn has_other(src: &[u8]) -> bool
     has_other_rest(src, i)
 }
 
-// Whether a text that was read onto the tape is spelled exactly as its forest is written. Every attribute and every `T` has a `=`: where no
-// other `=` stands than those of the `T`s, counts tell it.
+// Whether a text that was read onto the tape is spelled exactly as its forest is written.
 pub fn spelled(src: &[u8], tape: &[u32], hi: usize) -> bool
     requires { Valid src.now tape.now 0 hi × (length src.now ≤ 32768) }
     ensures { (a : Bool) (f : Forest) → read a src.now ≡ whole f → Tape src.now tape.now 0 hi f
         → result ≡ same src.now (written f) }
 {
-    let stamps = count_kind(tape, hi, 2);
-    if count_of(src, b'=') != stamps {
-        return matches(src, tape, hi);
-    }
     if src.len() == 0 {
         return false;
     }
@@ -132,7 +126,7 @@ pub fn spelled(src: &[u8], tape: &[u32], hi: usize) -> bool
     if is_white_byte(src[src.len() - 1]) {
         return false;
     }
-    let tags = stamps + count_kind(tape, hi, 1);
+    let tags = count_tags(tape, hi);
     if count_of(src, b'<') != 2 * tags {
         return false;
     }
@@ -140,17 +134,4 @@ pub fn spelled(src: &[u8], tape: &[u32], hi: usize) -> bool
         return false;
     }
     !has_other(src)
-}
-
-// No fewer than the nodes of the text that was read onto the tape: those of the tape but for the `T`s, and an attribute for each `=` but theirs.
-pub fn most_nodes(src: &[u8], tape: &[u32], hi: usize) -> usize
-    requires { Valid src.now tape.now 0 hi × (length src.now ≤ 32768) × (hi ≤ 16384) }
-    ensures { (a : Bool) (f : Forest) → read a src.now ≡ whole f → Tape src.now tape.now 0 hi f → nodes f ≤ result }
-{
-    let timed = 2 * count_kind(tape, hi, 2);
-    let all = hi + count_of(src, b'=');
-    if all < timed {
-        return all;
-    }
-    all - timed
 }

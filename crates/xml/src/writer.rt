@@ -1,16 +1,14 @@
 // Writing a tape's nodes. A writer is handed the output and the place to write at, which may lie past the output's end: it writes what
 // fits, and answers the place after all of it. So an empty output measures.
-ghost use Rattle.std.specs.Prelude.{◌≡◌, true, [], ◌∷◌, ℕ, ◌+◌, ◌-◌, ◌%◌, ◌^◌, ◌<◌, ◌≤◌, min, length};
+ghost use Rattle.std.specs.Prelude.{◌≡◌, [], ◌∷◌, ℕ, ◌+◌, ◌-◌, ◌%◌, ◌^◌, ◌<◌, ◌≤◌, min, length};
 ghost use Rattle.std.proofs.Math.Seq.{slice};
 ghost use Rattle.xml.specs.Over.{over, over_at, Wrote};
 ghost use Rattle.xml.specs.Forest.{Forest, escape, write as written};
 ghost use Rattle.xml.specs.Signs.{spelt};
 ghost use Rattle.xml.specs.Tape.{head_at, next_at, Tape, Valid, Writes};
-ghost use Rattle.xml.specs.TagParts.{IsTag};
-ghost use Rattle.xml.specs.TapeLaws.{opening, closing, meant_by};
+ghost use Rattle.xml.specs.TapeLaws.{opening, closing};
 ghost use Rattle.xml.specs.WriteLaws.{Fit};
 
-use crate::tag::{name_end, put_tag};
 use crate::tape::{is_run, view_at};
 use crate::text::{plain_end, sign_at};
 
@@ -102,14 +100,14 @@ pub fn put_text(src: &[u8], a: usize, e: usize, out: &mut [u8], at: usize) -> us
     to
 }
 
-// Writes the opening tag of an element, or of an archive's `T`, whose tag or times are spelled by src[a..e].
+// Writes the opening tag of an element, or of an archive's `T`, whose name or times are src[a..e].
 pub fn put_open(element: bool, src: &[u8], a: usize, e: usize, out: &mut [u8], at: usize) -> usize
-    requires { (a ≤ e) × (e ≤ length src.now) × (e - a ≤ 32768) × (at < 2 ^ 61) × (element ≡ true → IsTag (slice a e src.now)) }
-    ensures { Wrote out.old at (opening element (meant_by element (slice a e src.now))) result out.new }
+    requires { (a ≤ e) × (e ≤ length src.now) × (e - a ≤ 32768) × (at < 2 ^ 61) }
+    ensures { Wrote out.old at (opening element (slice a e src.now)) result out.new }
 {
     if element {
-        let tag = put_word(b"<", out, at);
-        let last = put_tag(&src[a..e], out, tag);
+        let name = put_word(b"<", out, at);
+        let last = put_part(src, a, e, out, name);
         return put_word(b">", out, last);
     }
     let times = put_word(b"<T t=\"", out, at);
@@ -119,13 +117,12 @@ pub fn put_open(element: bool, src: &[u8], a: usize, e: usize, out: &mut [u8], a
 
 // Writes its closing tag.
 pub fn put_close(element: bool, src: &[u8], a: usize, e: usize, out: &mut [u8], at: usize) -> usize
-    requires { (a ≤ e) × (e ≤ length src.now) × (e - a ≤ 32768) × (at < 2 ^ 61) × (element ≡ true → IsTag (slice a e src.now)) }
-    ensures { Wrote out.old at (closing element (meant_by element (slice a e src.now))) result out.new }
+    requires { (a ≤ e) × (e ≤ length src.now) × (e - a ≤ 32768) × (at < 2 ^ 61) }
+    ensures { Wrote out.old at (closing element (slice a e src.now)) result out.new }
 {
     if element {
         let name = put_word(b"</", out, at);
-        let count = name_end(&src[a..e]);
-        let last = put_part(src, a, a + count, out, name);
+        let last = put_part(src, a, e, out, name);
         return put_word(b">", out, last);
     }
     put_word(b"</T>", out, at)

@@ -8,7 +8,7 @@ mod stack;
 mod timing;
 
 use bench::station::Plain;
-use bench::workloads::{self, Refused, Workload};
+use bench::workloads::{self, Workload};
 use compare::station::{Call, Station, CALLS};
 use std::hint::black_box;
 use std::time::Duration;
@@ -38,52 +38,42 @@ fn main() {
         eprintln!("usage: bench [SECONDS]");
         std::process::exit(2);
     };
-    let (workloads, refused) = (workloads::all(), workloads::refused());
-    agree(&workloads, &refused);
-    let time = Duration::from_secs_f64(seconds / (workloads.len() * CALLS.len() + refused.len()) as f64);
-    let rows: Vec<Row> = workloads.iter().flat_map(|workload| workload.calls().map(|call| row(workload.name, &workload.keys, call, time))).collect();
-    let refusals: Vec<Row> = refused.iter().map(|refused| row(refused.name, &refused.keys, Call::Found { version: &refused.version }, time)).collect();
+    let workloads = workloads::all();
+    agree(&workloads);
+    let time = Duration::from_secs_f64(seconds / (workloads.len() * CALLS.len()) as f64);
+    let rows: Vec<Row> = workloads.iter().flat_map(|workload| workload.calls().map(|call| row(workload, call, time))).collect();
     let name = if cfg!(feature = "library") { "the library libfirmware.a" } else { "plain Rust itself, in place of the library" };
     println!("Library: {name}. Times in microseconds.\n");
     print_workloads(&workloads);
     print_medians(&rows);
     print_worst(&rows);
     print_stack(&rows);
-    println!("\nRefused: one tag of 16,384 bytes with as many attributes as fit.\n");
-    print_medians(&refusals);
-    print_worst(&refusals);
-    print_stack(&refusals);
 }
 
-/// Both give the same results: of the workloads they refuse none of the calls, of the others they do.
-fn agree(workloads: &[Workload], refused: &[Refused]) {
+/// Both give the same results, and refuse none of the calls.
+fn agree(workloads: &[Workload]) {
     for workload in workloads {
-        workload.calls().iter().for_each(|&call| agree_on(workload.name, &workload.keys, call, 0));
-    }
-    for Refused { name, keys, version, number } in refused {
-        agree_on(name, keys, Call::Found { version }, *number);
-    }
-}
-
-fn agree_on(name: &str, keys: &[u8], call: Call, number: u32) {
-    let results = [LIBRARY, &Plain].map(|station| {
-        let (mut table, mut out) = (call.table().to_vec(), vec![0xA5; OUTPUT]);
-        (station.call(keys, call, &mut table, &mut out), table, out)
-    });
-    let [(library, ..), (plain, ..)] = &results;
-    if results[0] != results[1] || plain.number != number {
-        eprintln!("{} of {name}: the library returned {library:?}, plain {plain:?}, or the outputs or tables differ", CALLS[call.index()]);
-        std::process::exit(1);
+        for call in workload.calls() {
+            let results = [LIBRARY, &Plain].map(|station| {
+                let (mut table, mut out) = (call.table().to_vec(), vec![0xA5; OUTPUT]);
+                (station.call(&workload.keys, call, &mut table, &mut out), table, out)
+            });
+            let [(library, ..), (plain, ..)] = &results;
+            if results[0] != results[1] || plain.number != 0 {
+                eprintln!("{} of {}: the library returned {library:?}, plain {plain:?}, or the outputs or tables differ", CALLS[call.index()], workload.name);
+                std::process::exit(1);
+            }
+        }
     }
 }
 
-fn row<'a>(workload: &'a str, keys: &'a [u8], call: Call<'a>, time: Duration) -> Row<'a> {
-    let mut contenders = vec![caller(LIBRARY, keys, call), caller(&Plain, keys, call)];
+fn row<'a>(workload: &'a Workload, call: Call<'a>, time: Duration) -> Row<'a> {
+    let mut contenders = vec![caller(LIBRARY, workload, call), caller(&Plain, workload, call)];
     contenders.extend(libxml2_reader(call));
     let mut times = timing::measure(&mut contenders, time).into_iter();
-    let stack = [LIBRARY, &Plain].map(|station| stack::used(&mut *caller(station, keys, call)));
+    let stack = [LIBRARY, &Plain].map(|station| stack::used(&mut *caller(station, workload, call)));
     let (Some(library), Some(plain)) = (times.next(), times.next()) else { unreachable!("two are measured") };
-    Row { workload, call: CALLS[call.index()], library, plain, libxml2: times.next(), stack }
+    Row { workload: workload.name, call: CALLS[call.index()], library, plain, libxml2: times.next(), stack }
 }
 
 /// What a call is lent to write to, and the bytes that its table has each time. Each lies at one place of a page, whatever was
@@ -95,7 +85,7 @@ struct Lent {
     out: [u8; OUTPUT],
 }
 
-fn caller<'a>(station: &'static dyn Station, keys: &'a [u8], call: Call<'a>) -> Box<dyn FnMut() + 'a> {
+fn caller<'a>(station: &'static dyn Station, workload: &'a Workload, call: Call<'a>) -> Box<dyn FnMut() + 'a> {
     let length = call.table().len();
     let mut lent = Box::new(Lent { fresh: [0; 1_024], table: [0; 1_024], out: [0; OUTPUT] });
     lent.fresh[..length].copy_from_slice(call.table());
@@ -103,7 +93,7 @@ fn caller<'a>(station: &'static dyn Station, keys: &'a [u8], call: Call<'a>) -> 
         let Lent { fresh, table, out } = &mut *lent;
         // A call may change the table: each is lent the same one.
         table[..length].copy_from_slice(&fresh[..length]);
-        black_box(station.call(black_box(keys), black_box(call), black_box(&mut table[..length]), black_box(out)));
+        black_box(station.call(black_box(&workload.keys), black_box(call), black_box(&mut table[..length]), black_box(out)));
     })
 }
 

@@ -9,11 +9,9 @@ use compare::marks::{self, UNUSED};
 use compare::notes;
 use compare::random::Random;
 use compare::station::Call;
-use compare::units;
 use reference::archive::archive;
 use reference::keys::KeyList;
 use reference::version::{written, Element, Node, Version};
-use reference::xml::Attribute;
 
 fn random(seed: u64, number: u64) -> Random {
     Random::new(seed.wrapping_mul(0x1_0000_0003).wrapping_add(number))
@@ -24,21 +22,18 @@ pub fn damaged_workload(c: &mut Comparison, seed: u64, number: u64) {
     c.place = format!("seed {seed}, workload {number}");
     let r = &mut random(seed, number);
     let versions = if r.below(400) == 0 { 999 } else { r.choose(&[2, 5, 9, 12, 20]) };
-    let workload = match r.below(8) {
+    let workload = match r.below(6) {
         0 => workloads::typical(versions.min(50)),
         1 | 2 => workloads::counter(versions),
         3 => workloads::gaps(versions),
         4 => workloads::notes(versions.min(12)),
-        5 => workloads::units(versions.min(10)),
-        6 => workloads::readings(versions.min(511)),
         _ => workloads::lamps(versions),
     };
     for call in workload.calls() {
         c.ask(r, &workload.keys, call);
     }
-    // The same version with other line ends, and its attributes spelled otherwise.
+    // The same version with other line ends.
     let version = &notes::other_ends(r, &workload.version);
-    let version = &units::other_spelling(r, version);
     c.ask(r, &workload.keys, Call::Found { version });
     c.ask(r, &workload.keys, Call::Add { archive: &workload.before, version });
     c.ask(r, &workload.keys, Call::Add { archive: &workload.archive, version });
@@ -67,13 +62,11 @@ fn ask_one(c: &mut Comparison, r: &mut Random, workload: &Workload, archive: &[u
     c.ask(r, &workload.keys, call);
 }
 
-/// The text in one place of the archive, between two tags or in an attribute, put in another such place.
+/// The text in one place of the archive, between two tags, put in another such place.
 fn one_content_twice(r: &mut Random, workload: &Workload) -> Vec<u8> {
     let text = &workload.archive;
-    let between = |at: usize| text[at - 1] == b'>' && text[at] != b'<';
-    let inside = |at: usize| text[..at].ends_with(b"=\"") && !text[..at].ends_with(b"<T t=\"");
-    let begins: Vec<usize> = (1..text.len()).filter(|&at| between(at) || inside(at)).collect();
-    let run = |begin: usize| begin..begin + text[begin..].iter().position(|&byte| byte == b'<' || byte == b'"').unwrap_or(0);
+    let begins: Vec<usize> = (1..text.len()).filter(|&at| text[at - 1] == b'>' && text[at] != b'<').collect();
+    let run = |begin: usize| begin..begin + text[begin..].iter().position(|&byte| byte == b'<').unwrap_or(0);
     let (from, to) = (run(r.choose(&begins)), run(r.choose(&begins)));
     let mut doubled = text.clone();
     doubled.splice(to, text[from].to_vec());
@@ -118,37 +111,25 @@ pub fn large_versions(c: &mut Comparison, seed: u64, number: u64) {
 }
 
 fn element(name: &str, content: Vec<Node>) -> Node {
-    Node::Element(Element { name: name.into(), attributes: vec![], content })
-}
-
-fn with_attribute(name: &str, value: Vec<u8>) -> Node {
-    let attribute = Attribute { name: b"a".to_vec(), value };
-    Node::Element(Element { name: name.into(), attributes: vec![attribute], content: vec![] })
+    Node::Element(Element { name: name.into(), content })
 }
 
 fn large_content(r: &mut Random, by_nodes: bool) -> Vec<Node> {
     let number = Node::Text(format!("{}", r.below(1_000)).into_bytes());
-    let last = if r.chance(50) { element("m", vec![]) } else { with_attribute("m", b"\">&<".repeat(r.below(100))) };
-    let mut content = vec![number, last];
+    let mut content = vec![number, element("m", vec![])];
     lengthen(&mut content, r.below(if by_nodes { 200 } else { 6_000 }), by_nodes);
     content
 }
 
-/// More nodes, two for each element with an attribute if there is one already; or more bytes in an element at the end, or in its
-/// attribute's value.
+/// More nodes, or more bytes in an element at the end.
 fn lengthen(content: &mut Vec<Node>, by: usize, by_nodes: bool) {
-    let Some(Node::Element(last)) = content.last_mut() else { return };
-    match last.attributes.last_mut() {
-        Some(_) if by_nodes => {
-            content.extend((0..by % 2).map(|_| element("a", vec![])));
-            content.extend((0..by / 2).map(|_| with_attribute("a", vec![])));
-        }
-        None if by_nodes => content.extend((0..by).map(|_| element("a", vec![]))),
-        Some(attribute) => attribute.value.resize(attribute.value.len() + by, b'x'),
-        None => match last.content.last_mut() {
+    if by_nodes {
+        content.extend((0..by).map(|_| element("a", vec![])));
+    } else if let Some(Node::Element(last)) = content.last_mut() {
+        match last.content.last_mut() {
             Some(Node::Text(text)) => text.resize(text.len() + by, b'x'),
             _ => last.content.push(Node::Text(vec![b'x'; by + 1])),
-        },
+        }
     }
 }
 
@@ -161,5 +142,5 @@ fn version(contents: &[Vec<Node>], choice: &[usize; 3]) -> Element {
         let inside = [Some(key), frontier("v", choice[2])].into_iter().flatten().collect();
         content.push(element("k", inside));
     }
-    Element { name: b"s".to_vec(), attributes: vec![], content }
+    Element { name: b"s".to_vec(), content }
 }

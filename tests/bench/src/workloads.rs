@@ -60,19 +60,17 @@ impl Workload {
         table
     }
 
-    /// The nodes of the archive: elements but the `T`s, attributes but their `t`, and runs of text. No value of a workload
-    /// has a `>`, and no text `="`.
+    /// The nodes of the archive: elements but the `T`s, and runs of text.
     pub fn nodes(&self) -> usize {
         let elements = self.archive.windows(2).filter(|two| two[0] == b'<' && two[1] != b'/').count();
-        let attributes = self.archive.windows(2).filter(|two| two == b"=\"").count();
         let ts = self.archive.windows(3).filter(|three| three == b"<T ").count();
         let runs = self.archive.windows(2).filter(|two| two[0] == b'>' && two[1] != b'<').count();
-        elements + attributes - 2 * ts + runs
+        elements - ts + runs
     }
 }
 
 pub fn all() -> Vec<Workload> {
-    vec![record(), typical(50), full(), counter(999), gaps(999), lamps(999), deep(), notes(12), units(10), readings(511)]
+    vec![record(), typical(50), full(), counter(999), gaps(999), lamps(999), deep(), notes(12)]
 }
 
 /// An archive as it grows.
@@ -291,86 +289,4 @@ pub fn deep() -> Workload {
     (1..8).rev().for_each(|levels| archive.add(&nested(0..levels, "")));
     archive.add(&whole("after"));
     archive.done("deep", &path(8))
-}
-
-/// Nine notes of eight readings, which have one to eight attributes: in the order and with the quotes of the tablet that saved
-/// them. In each version one note is another. A version has nearly as many nodes and bytes as it may have, and so has the archive.
-pub fn units(versions: usize) -> Workload {
-    let mut archive = Growing::new("(/, (station, {}))\n(/station, (note, {day}))\n(/station/note, (text, {}))\n");
-    for number in 1..=versions {
-        let saved = |day: usize| (number + 8 - day) / 9;
-        let note = |day: usize| {
-            let readings: String = (1..=8).map(|count| reading(day + saved(day), count)).collect();
-            format!("<note><day>{day}</day><text>{readings}</text></note>\n")
-        };
-        archive.add(&format!("<station>\n{}</station>\n", (0..9).map(note).collect::<String>()));
-    }
-    archive.done("units", "/station/note[day=\"7\"]/text")
-}
-
-/// One frontier with another content in each version; they differ in an attribute alone.
-pub fn readings(versions: usize) -> Workload {
-    let mut archive = Growing::new("(/, (station, {}))\n(/station, (reading, {}))\n");
-    for number in 1..=versions {
-        archive.add(&format!("<station><reading><lamp hours=\"the {number}th hour of burning\"/></reading></station>"));
-    }
-    archive.done("readings", "/station/reading")
-}
-
-/// An element with so many attributes.
-fn reading(seed: usize, count: usize) -> String {
-    let names = ["unit", "at", "by", "from", "until", "lamp-position", "sensor", "remark"];
-    let attribute = |number: usize| {
-        let name = names[(seed + 3 * number) % 8];
-        let (quote, other) = if (seed + number) % 3 == 0 { ('\'', "\"") } else { ('"', "'") };
-        let end = ["hours &amp; minutes of burning", "the second keeper's own word", "degrees of frost &lt; 40, in lee", "wind north-west, force 5 to 6", "lamp 2 of 4, the upper row"][(seed * count + number) % 5];
-        let value = format!("{seed:02}{number} {}", end.replace('\'', if quote == '"' { other } else { "&apos;" }));
-        format!(" {name}={quote}{value}{quote}")
-    };
-    format!("<reading{}>{}.{}</reading>", (0..count).map(attribute).collect::<String>(), seed * 10 + count, count % 10)
-}
-
-/// A version that is refused, which takes the longest where an implementation looks for repeated names: one tag of 16,384
-/// bytes, with as many attributes as it can have, all distinct. It is refused with 6.
-pub struct Refused {
-    pub name: &'static str,
-    pub keys: Vec<u8>,
-    pub version: Vec<u8>,
-    pub number: u32,
-}
-
-/// The names in the order of their bytes, in the other one, in none, and names of 32 bytes that differ in the last two.
-pub fn refused() -> Vec<Refused> {
-    let ascending = short_names();
-    let descending: Vec<String> = ascending.iter().rev().cloned().collect();
-    let mut shuffled = ascending.clone();
-    Random::new(9).shuffle(&mut shuffled);
-    let mut long: Vec<String> = ascending.iter().filter(|name| name.len() == 2).map(|name| format!("{}{name}", "n".repeat(30))).collect();
-    Random::new(9).shuffle(&mut long);
-    let refused = |name, names: &[String]| Refused { name, keys: RECORD.into(), version: one_tag(names), number: 6 };
-    vec![refused("ascending", &ascending), refused("descending", &descending), refused("shuffled", &shuffled), refused("long names", &long)]
-}
-
-/// Names of one byte and of two, of which the most fit in a tag of 16,384 bytes: 2,737 of those.
-fn short_names() -> Vec<String> {
-    let first = || ('A'..='Z').chain(['_']).chain('a'..='z');
-    let other = || ['-', '.'].into_iter().chain('0'..='9').chain(first());
-    let mut names: Vec<String> = first().map(String::from).collect();
-    names.extend(first().flat_map(|one| other().map(move |two| format!("{one}{two}"))).take(2_685));
-    names.sort_unstable();
-    names
-}
-
-/// `<station …/>` of 16,384 bytes, with as many of these attributes as fit, the last one's value filling the rest.
-fn one_tag(names: &[String]) -> Vec<u8> {
-    let mut text = "<station".to_string();
-    for name in names {
-        if text.len() + name.len() + 4 + 2 > 16_384 {
-            break;
-        }
-        text += &format!(" {name}=\"\"");
-    }
-    text.pop();
-    text += &"x".repeat(16_384 - text.len() - 3);
-    (text + "\"/>").into_bytes()
 }

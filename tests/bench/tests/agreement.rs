@@ -83,29 +83,4 @@ fn the_workloads() {
     let full = workloads::full();
     assert_eq!((full.nodes(), full.archive.len()), (1_024, 32_768));
     assert_eq!(workloads::counter(999).n, 999);
-    let units = workloads::units(10);
-    assert_eq!((units.nodes(), units.archive.len(), units.version.len()), (973, 31_330, 15_837));
-    let keys = reference::keys::KeyList::read(&units.keys).ok().unwrap();
-    let versions = reference::archive::versions(&keys, &units.archive).unwrap();
-    assert_eq!(reference::archive::archive(&keys, &versions).nodes, units.nodes());
-}
-
-/// The tags with the most attributes are refused by both with 6, and with 5 if a name of them is repeated.
-#[test]
-fn the_refused() {
-    for workloads::Refused { name, keys, version, number } in workloads::refused() {
-        let count = version.windows(2).filter(|two| two == b"=\"").count();
-        assert_eq!((version.len(), count), (16_384, if name == "long names" { 454 } else { 2_737 }), "{name}");
-        let refuses = |version: &[u8]| [plain::found(&keys, version, &mut []).0, reference::found(&keys, version, 0, reference::WORK_CELLS).number];
-        assert_eq!(refuses(&version), [number, number], "{name}");
-        // The last name is another's: that of the first, or of one in the middle.
-        let begins: Vec<usize> = (0..version.len()).filter(|&at| version[at] == b' ').map(|at| at + 1).collect();
-        let length = |begin: usize| version[begin..].iter().position(|&byte| byte == b'=').unwrap();
-        for from in [begins[0], begins[count / 2]] {
-            let to = *begins.iter().rev().find(|&&to| length(to) == length(from)).unwrap();
-            let mut repeated = version.clone();
-            repeated.copy_within(from..from + length(from), to);
-            assert_eq!(refuses(&repeated), [5, 5], "{name}");
-        }
-    }
 }

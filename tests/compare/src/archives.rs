@@ -2,14 +2,12 @@
 
 use crate::keylists::NAMES;
 use crate::random::{damage_bytes, Random};
-use crate::units;
 use reference::timestamp;
 
 #[derive(Clone, PartialEq)]
 enum Kind {
     /// With the text of its set.
     T(Vec<u8>),
-    /// With what is between `<` and `>` of its first tag: its name, and attributes.
     Element(Vec<u8>),
     /// As it is spelled.
     Text(Vec<u8>),
@@ -43,7 +41,7 @@ fn read(rest: &mut &[u8]) -> Vec<Part> {
             *rest = &rest[end..];
             continue;
         }
-        let end = tag_end(rest);
+        let end = rest.iter().position(|&byte| byte == b'>').unwrap();
         let tag = rest[1..end].to_vec();
         let kind = match tag.strip_prefix(b"T t=\"") {
             Some(set) => Kind::T(set[..set.len() - 1].to_vec()),
@@ -58,32 +56,17 @@ fn read(rest: &mut &[u8]) -> Vec<Part> {
     parts
 }
 
-/// The `>` of the tag that a text begins with: one that is in no value.
-fn tag_end(text: &[u8]) -> usize {
-    let mut quoted = false;
-    let ends = |&byte: &u8| {
-        quoted ^= byte == b'"';
-        byte == b'>' && !quoted
-    };
-    text.iter().position(ends).unwrap()
-}
-
-/// The name of an element, of which the attributes follow.
-fn name_of(tag: &[u8]) -> &[u8] {
-    &tag[..tag.iter().position(|&byte| byte == b' ').unwrap_or(tag.len())]
-}
-
 fn write(parts: &[Part], out: &mut Vec<u8>) {
     for part in parts {
         match &part.kind {
             Kind::T(set) => out.extend_from_slice(&[b"<T t=\"", &set[..], b"\">"].concat()),
-            Kind::Element(tag) => out.extend_from_slice(&[b"<", &tag[..], b">"].concat()),
+            Kind::Element(name) => out.extend_from_slice(&[b"<", &name[..], b">"].concat()),
             Kind::Text(text) => out.extend_from_slice(text),
         }
         write(&part.parts, out);
         match &part.kind {
             Kind::T(_) => out.extend_from_slice(b"</T>"),
-            Kind::Element(tag) => out.extend_from_slice(&[b"</", name_of(tag), b">"].concat()),
+            Kind::Element(name) => out.extend_from_slice(&[b"</", &name[..], b">"].concat()),
             Kind::Text(_) => (),
         }
     }
@@ -126,9 +109,8 @@ const SETS: [&str; 22] = [
 
 const TEXTS: [&str; 18] = ["", "1", "2", "10", "x", " ", "&gt;", ">", "&quot;", "\"", "]]&gt;", "]]>", "&amp;lt;", "a b", "a\nb", "\n", "a\rb", "a\r\nb"];
 
-const SNIPPETS: [&str; 30] = [
+const SNIPPETS: [&str; 24] = [
     "<T t=\"1\">", "</T>", "<T t=\"2\"></T>", "<T>", "<T/>", "<T t='1'>", "<T  t=\"1\">", "<T t=\"1\" >", "<T t=\"1\"/>", " ", "\n", "\r", "\r\n", "<a></a>", "<a/>", "x", ">", "&", "&lt;", "</", "<", "]]>", "<!---->", "\0",
-    " a=\"b\"", "<n a='b'></n>", "<n a=\"b\"></n>", "<n b=\"\" a=\"\"></n>", "<T t=\"1\" a=\"\">", "&quot;",
 ];
 
 /// An archive near a legal one of n versions. Some are legal still.
@@ -236,116 +218,9 @@ fn damage_root(r: &mut Random, top: &mut Part, n: usize) {
     }
 }
 
-/// The attributes of a tag in written form, each with the space before it.
-fn attributes_of(tag: &[u8]) -> Vec<Vec<u8>> {
-    let mut all = vec![];
-    let mut quoted = false;
-    for &byte in &tag[name_of(tag).len()..] {
-        if byte == b' ' && !quoted {
-            all.push(vec![]);
-        }
-        quoted ^= byte == b'"';
-        if let Some(last) = all.last_mut() {
-            last.push(byte);
-        }
-    }
-    all
-}
-
-fn replaced(text: &[u8], from: &str, to: &str, once: bool) -> Vec<u8> {
-    let text = String::from_utf8_lossy(text);
-    if once { text.replacen(from, to, 1) } else { text.replace(from, to) }.into_bytes()
-}
-
-/// Attributes (Q-1) not as they are written: another order, quote, space or entity, one twice, a ninth, one named `T`; some where
-/// none may be: on a keyed element, a frontier, a `T`. Some are legal still.
-fn damage_attributes(r: &mut Random, top: &mut Part) {
-    let has_attributes = |part: &Part| matches!(&part.kind, Kind::Element(tag) if tag.contains(&b' '));
-    let is_element = |part: &Part| matches!(part.kind, Kind::Element(_));
-    let is_t = |part: &Part| matches!(part.kind, Kind::T(_));
-    let kind = r.below(24);
-    let fits: &dyn Fn(&Part) -> bool = match kind {
-        0..=15 | 19 => &has_attributes,
-        16..=18 | 20 => &is_element,
-        _ => &is_t,
-    };
-    let Some(Place { way, number, .. }) = some(r, top, fits) else { return };
-    let chosen = &mut siblings(top, &way)[number];
-    if let Kind::T(set) = &chosen.kind {
-        let with = |before: &str, quote: &str, after: &str| [b"T", before.as_bytes(), b" t=", quote.as_bytes(), &set[..], quote.as_bytes(), after.as_bytes()].concat();
-        let tag = r.choose(&[("", "'", ""), (" ", "\"", ""), ("", "\"", " "), ("", "\"", " a=\"\""), (" a=\"\"", "\"", ""), ("", "\"", " t=\"1\""), (" T=\"1\"", "\"", ""), ("", "\"", " u=\"1\"")]);
-        chosen.kind = Kind::Element(with(tag.0, tag.1, tag.2));
-        return;
-    }
-    let Kind::Element(tag) = &chosen.kind else { return };
-    let name = name_of(tag).to_vec();
-    let mut attributes = attributes_of(tag);
-    let count = attributes.len();
-    let one = r.below(count.max(1));
-    let respelled = |from: &str, to: &str| replaced(tag, from, to, true);
-    let tag = match kind {
-        // Another order.
-        0..=2 => {
-            match r.below(3) {
-                0 => attributes.reverse(),
-                1 => attributes.rotate_left(1),
-                _ => r.shuffle(&mut attributes),
-            }
-            [&name[..], &attributes.concat()].concat()
-        }
-        // Another quote; entities in place of bytes, and bytes in place of entities.
-        3 | 4 => {
-            attributes[one] = replaced(&attributes[one], "\"", "'", false);
-            [&name[..], &attributes.concat()].concat()
-        }
-        5 => respelled(">", "&gt;"),
-        6 => respelled("'", "&apos;"),
-        7 => respelled("&quot;", r.choose(&["\"", "'", "&apos;"])),
-        8 => respelled(r.choose(&["&lt;", "&amp;"]), r.choose(&["<", "&", ">", "&gt;"])),
-        // In place of a value's end, or of its beginning.
-        9 => respelled("\" ", &format!("{}\" ", r.choose(&["&gt;", "&apos;", "<", "&", "\t", "\n", "\r", "\x7f", "x", ">", "'"]))),
-        10 => respelled("=\"", &format!("=\"{}", r.choose(&["&gt;", "&apos;", "<", "&", "\t", "\n", "\r", "\x7f", "x", ">", "'", "&quot;", "&lt;"]))),
-        // A space more or less.
-        11 => respelled(r.choose(&[" ", "=", "\" "]), r.choose(&["  ", " = ", "\"", "= ", "\"  ", "\t"])),
-        12 => [&tag[..], b" "].concat(),
-        // One twice, one gone.
-        13 | 14 => {
-            let again = attributes[one].clone();
-            attributes.insert(if r.chance(70) { one } else { r.below(count) }, again);
-            [&name[..], &attributes.concat()].concat()
-        }
-        15 => {
-            attributes.remove(one);
-            [&name[..], &attributes.concat()].concat()
-        }
-        // One more, in its place or not; about eight.
-        16..=18 => {
-            let more = match r.below(6) {
-                0 => " T=\"1\"".to_string(),
-                1 => " zz=\"\"".to_string(),
-                _ => format!(" {}=\"{}\"", r.pick(&units::NAMES), r.choose(&["", "1", ">", "&quot;", "&gt;"])),
-            };
-            attributes.push(more.into_bytes());
-            if r.chance(60) {
-                attributes.sort();
-            }
-            [&name[..], &attributes.concat()].concat()
-        }
-        19 => {
-            let all: String = (0..r.choose(&[7, 8, 9, 9, 10])).map(|number| format!(" n{number}=\"\"")).collect();
-            [&name[..], all.as_bytes()].concat()
-        }
-        _ => [&name[..], r.pick(&units::WRONG).as_bytes()].concat(),
-    };
-    chosen.kind = Kind::Element(tag);
-}
-
 fn damage(r: &mut Random, top: &mut Part, n: usize) {
     if r.chance(12) {
         return damage_root(r, top, n);
-    }
-    if r.chance(20) {
-        return damage_attributes(r, top);
     }
     let is_t = |part: &Part| matches!(part.kind, Kind::T(_));
     let is_element = |part: &Part| matches!(part.kind, Kind::Element(_));

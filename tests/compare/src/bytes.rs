@@ -34,8 +34,8 @@ pub struct Places {
 }
 
 /// Each kind of place.
-pub fn kinds() -> [Places; 9] {
-    [texts(), white_space(), names(), values(), key_lists(), addresses(), timestamps(), attributes(), tags()]
+pub fn kinds() -> [Places; 8] {
+    [texts(), white_space(), names(), values(), key_lists(), addresses(), timestamps(), tags()]
 }
 
 pub fn run(c: &mut Comparison) {
@@ -225,21 +225,6 @@ fn timestamps() -> Places {
         archives.extend(in_set(&archive_of(n, &set, &[]), n, &text, places.into_iter().chain([text.len()])));
     }
     Places { archives, ..Places::default() }
-}
-
-/// Attributes of an element in a frontier: their names, the bytes around these, and their values in both quotes.
-fn attributes() -> Places {
-    let short = ["@", "@m", "m@", "m@n"].map(String::from);
-    let mut lists: Vec<String> = short.into_iter().chain(in_32_bytes()).map(|name| format!(" {name}=\"x\"")).collect();
-    let around = ["@m=\"x\"", " m@\"x\"", " m=@x\"", " m=\"x@", " m='x@", " m=\"x\"@", " m='x'@", " m=\"x\"@k=\"y\"", " m=\"x\" @k=\"y\"", " m=\"x\" k@=\"y\"", "@", " m@", " m=@", " m=\"x\"/@"];
-    lists.extend(around.map(String::from));
-    let short = ["@", "x@", "@x", "x@x", "]]@", "&@", "&@;", "&@t;", "&l@;", "&lt@", "&@mp;", "&quo@;", "&apo@;", "&lt;@", "@&lt;"];
-    for value in short.map(String::from).into_iter().chain((0..40).map(|at| over(&RUN[..40], at))) {
-        lists.push(format!(" m=\"{value}\""));
-    }
-    lists.extend(short.map(|value| format!(" m='{value}'")));
-    lists.extend([15, 16, 17, 31, 32, 33, 39].map(|at| format!(" m='{}'", over(&RUN[..40], at))));
-    Places::of_versions(lists.iter().map(|list| in_frontier(&format!("<n{list}></n>"))))
 }
 
 /// The tags of an archive's outermost `T`, and before and after them.

@@ -76,16 +76,6 @@ impl Guarded {
 }
 
 impl<'a> Comparison<'a> {
-    /// Runs cases kind by kind; a difference is said with its kind.
-    pub fn run_kinds(&mut self, of: &str, kinds: &[(&'static str, fn(&mut Comparison))]) {
-        let place = self.place.clone();
-        for (name, kind) in kinds {
-            self.place = format!("{place}, {of}, {name}");
-            kind(self);
-        }
-        self.place = place;
-    }
-
     pub fn new(station: &'a dyn Station) -> Comparison<'a> {
         Comparison {
             station,

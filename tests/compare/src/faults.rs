@@ -3,7 +3,7 @@
 //! the longest history (document 02, Q-2, Q-6 and Q-14). Those of byte classes by formula (Q-3), each
 //! range of a class one byte too wide or too narrow at each of its ends, are found by the sweep of
 //! that byte alone (`bytes`), at each kind of place where the class decides. Those of line ends (Q-4)
-//! are in `line_end_faults`, those of attributes (Q-1) in `attribute_faults`.
+//! are in `line_end_faults`.
 
 use crate::bytes::{self, Places};
 use crate::comparison::Comparison;
@@ -520,21 +520,6 @@ fn wrong_texts(places: &Places, lent: Lent, run: (usize, usize)) {
     }
 }
 
-/// In an attribute's value: as in text, but that tab, LF and CR are none of its bytes, and that a quote ends it.
-fn wrong_attribute_values(places: &Places, lent: Lent, run: (usize, usize)) {
-    for ends in TEXT_ENDS {
-        assert_wide_found(places, lent, run, ends);
-        assert_narrow_found(places, lent, run, ends);
-    }
-    for byte in [0x00, 0x80, 0xA1, 0xFF, b'&', b'<', b'\t', b'\n', b'\r'] {
-        assert_wide_found(places, lent, run, (byte, b'!'));
-    }
-    // The bytes beside `"`, `&` and `<` are taken as these, and so are those of white space.
-    for ends in [(b'"', b'!'), (b'"', b'#'), (b'&', b'%'), (b'<', b';'), (b'<', b'='), (b'\t', b' ')] {
-        assert_narrow_found(places, lent, run, ends);
-    }
-}
-
 /// Too much or too little is taken as white space: what is none is illegal, or other text.
 fn wrong_white_space(places: &Places, run: (usize, usize)) {
     for (byte, white_space) in [(0x08, b'\t'), (0x0B, b'\n'), (0x0C, b'\r'), (0x0E, b'\r'), (0x1F, b' '), (b'!', b' '), (0x00, b' '), (0x85, b' '), (0xA0, b' ')] {
@@ -558,13 +543,11 @@ fn wrong_digits(places: &Places, run: (usize, usize)) {
 #[test]
 fn each_wrong_range_is_found() {
     use Lent::*;
-    let [texts, white_space, names, values, key_lists, addresses, timestamps, attributes, _] = bytes::kinds();
-    for (places, lent) in [(&names, Version), (&names, Archive), (&attributes, Version), (&attributes, Archive), (&key_lists, Keys)] {
+    let [texts, white_space, names, values, key_lists, addresses, timestamps, _] = bytes::kinds();
+    for (places, lent) in [(&names, Version), (&names, Archive), (&key_lists, Keys)] {
         wrong_first_bytes(places, lent);
     }
     wrong_name_bytes(&names, Archive, ANY);
-    wrong_name_bytes(&attributes, Version, ANY);
-    wrong_name_bytes(&attributes, Archive, ANY);
     wrong_name_bytes(&key_lists, Keys, ANY);
     // In every place of a run, or only in some: a scanner may compare a block of bytes by other means.
     for run in [ANY, (1, 16), (16, 31), (31, 32)] {
@@ -575,10 +558,6 @@ fn each_wrong_range_is_found() {
     for run in [ANY, (0, 6), (6, 9), (14, 18), (16, 32), (32, 34), (34, usize::MAX)] {
         wrong_texts(&texts, Version, run);
         wrong_texts(&texts, Archive, run);
-    }
-    for run in [ANY, (0, 6), (6, 9), (14, 18), (16, 32), (32, 34), (34, usize::MAX)] {
-        wrong_attribute_values(&attributes, Version, run);
-        wrong_attribute_values(&attributes, Archive, run);
     }
     for run in [ANY, (0, 8), (8, 16), (16, 32), (32, usize::MAX)] {
         wrong_white_space(&white_space, run);

@@ -3,9 +3,6 @@
 
 pub mod addresses;
 pub mod archives;
-#[cfg(test)]
-mod attribute_faults;
-pub mod attributes;
 pub mod bytes;
 pub mod comparison;
 #[cfg(test)]
@@ -20,7 +17,6 @@ pub mod marks;
 pub mod notes;
 pub mod random;
 pub mod station;
-pub mod units;
 pub mod versions;
 
 use comparison::Comparison;

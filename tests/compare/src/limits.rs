@@ -1,6 +1,5 @@
 //! The limits, the worked record and each refusal: the same cases in every run, before the rounds.
 
-use crate::attributes;
 use crate::bytes;
 use crate::comparison::Comparison;
 use crate::line_ends;
@@ -29,7 +28,6 @@ pub fn run(c: &mut Comparison) {
     vacancies(c);
     longest_histories(c);
     line_ends::run(c);
-    attributes::run(c);
 }
 
 pub(crate) fn f(content: &str) -> String {

@@ -79,7 +79,7 @@ enum Seen {
 
 struct Misreading(Fault);
 
-pub(crate) fn replaced(text: &[u8], from: &[u8], to: &[u8]) -> Vec<u8> {
+fn replaced(text: &[u8], from: &[u8], to: &[u8]) -> Vec<u8> {
     let mut all = vec![];
     let mut rest = text;
     while !rest.is_empty() {
@@ -312,7 +312,7 @@ impl Misreading {
                 Some(Reference.call(keys, Call::History { archive, address }, table, out))
             }
             (Fault::Takes(seen), _) => {
-                let lent = call.archive().filter(|archive| archive.contains(&b'\r') && archive.len() <= ARCHIVE_BYTES)?;
+                let lent = archive_of(call).filter(|archive| archive.contains(&b'\r') && archive.len() <= ARCHIVE_BYTES)?;
                 let archive = match seen {
                     Seen::AsBefore => return with_tabs(keys, call, lent, table, out),
                     Seen::WithTheStep => line_ends(lent),
@@ -320,10 +320,31 @@ impl Misreading {
                     Seen::LoneCrAsLf => where_read(lent, |at| lent.get(at + 1) != Some(&b'\n')),
                     Seen::WithoutItsEnds => without_ends(lent),
                 };
-                Some(Reference.call(keys, call.with_archive(&archive), table, out))
+                Some(Reference.call(keys, with_archive(call, &archive), table, out))
             }
             _ => None,
         }
+    }
+}
+
+fn archive_of<'a>(call: Call<'a>) -> Option<&'a [u8]> {
+    match call {
+        Call::Add { archive, .. } | Call::Retrieve { archive, .. } | Call::History { archive, .. } | Call::Back { archive, .. } => Some(archive),
+        Call::BackToMark { archive, .. } | Call::SetMark { archive, .. } | Call::FindMark { archive, .. } => Some(archive),
+        Call::CheckKeys | Call::Found { .. } | Call::LongestHistory { .. } => None,
+    }
+}
+
+fn with_archive<'a>(call: Call<'a>, archive: &'a [u8]) -> Call<'a> {
+    match call {
+        Call::Add { version, .. } => Call::Add { archive, version },
+        Call::Retrieve { i, .. } => Call::Retrieve { archive, i },
+        Call::History { address, .. } => Call::History { archive, address },
+        Call::Back { table, i, .. } => Call::Back { archive, table, i },
+        Call::BackToMark { table, name, .. } => Call::BackToMark { archive, table, name },
+        Call::SetMark { table, name, i, .. } => Call::SetMark { archive, table, name, i },
+        Call::FindMark { table, name, .. } => Call::FindMark { archive, table, name },
+        Call::CheckKeys | Call::Found { .. } | Call::LongestHistory { .. } => call,
     }
 }
 
@@ -332,7 +353,7 @@ fn with_tabs(keys: &[u8], call: Call, lent: &[u8], table: &mut [u8], out: &mut [
     if lent.contains(&b'\t') {
         return None;
     }
-    let returned = Reference.call(keys, call.with_archive(&replaced(lent, b"\r", b"\t")), table, out);
+    let returned = Reference.call(keys, with_archive(call, &replaced(lent, b"\r", b"\t")), table, out);
     out[..returned.length].iter_mut().filter(|byte| **byte == b'\t').for_each(|byte| *byte = b'\r');
     Some(returned)
 }

@@ -32,7 +32,12 @@ pub fn kinds() -> [(&'static str, fn(&mut Comparison)); 10] {
 }
 
 pub fn run(c: &mut Comparison) {
-    c.run_kinds("line ends", &kinds());
+    let place = c.place.clone();
+    for (name, kind) in kinds() {
+        c.place = format!("{place}, line ends, {name}");
+        kind(c);
+    }
+    c.place = place;
 }
 
 fn found(c: &mut Comparison, version: &str) {

@@ -8,7 +8,6 @@ use crate::marks;
 use crate::notes;
 use crate::random::Random;
 use crate::station::{Call, Expected};
-use crate::units;
 use crate::versions::{self, Tree};
 use reference::shelf::Shelf;
 
@@ -40,10 +39,6 @@ pub fn round(c: &mut Comparison, r: &mut Random) {
         let version = versions::damaged(r, &keys, &model);
         c.ask(r, &keys.text, Call::Found { version: &version });
     }
-    for _ in 0..3 {
-        let version = versions::near_units(r, &keys, &model);
-        c.ask(r, &keys.text, Call::Found { version: &version });
-    }
     let Some(standing) = list(c, r, &keys, model) else { return };
     for _ in 0..12 {
         near(c, r, &keys, &standing);
@@ -57,7 +52,7 @@ pub fn round(c: &mut Comparison, r: &mut Random) {
     }
 }
 
-/// A list of calls: the founding, adds, of vacant versions, of notes saved on several tablets and of units spelled again too, marks set, steps
+/// A list of calls: the founding, adds, of vacant versions and of notes saved on several tablets too, marks set, steps
 /// back by number and by name, refused ones between them, then retrievals and histories. After each call that was not refused, result and
 /// table are measured against the shelf.
 fn list(c: &mut Comparison, r: &mut Random, keys: &Keys, model: Tree) -> Option<Standing> {
@@ -71,7 +66,7 @@ fn list(c: &mut Comparison, r: &mut Random, keys: &Keys, model: Tree) -> Option<
     c.shelf_gives(&keys.text, call, &founded.bytes, &shelf.archive());
     let mut standing = Standing { archive: founded.bytes, table: shelf.table(), shelf, trees: vec![model] };
     for _ in 0..r.choose(&[0, 2, 4, 8, 12, 16]) {
-        match r.below(38) {
+        match r.below(35) {
             0..=12 => {
                 let earlier = r.pick(&standing.trees).clone();
                 let latest = standing.trees.last().unwrap();
@@ -102,7 +97,6 @@ fn list(c: &mut Comparison, r: &mut Random, keys: &Keys, model: Tree) -> Option<
             22 | 23 => (0..r.choose(&[1, 1, 2, 3])).for_each(|_| strike_off(c, r, keys, &mut standing)),
             24 if r.chance(10) => (0..33).for_each(|_| set_mark(c, r, keys, &mut standing)),
             25..=27 => save_on_tablets(c, r, keys, &mut standing),
-            28..=30 => save_units(c, r, keys, &mut standing),
             _ => set_mark(c, r, keys, &mut standing),
         }
     }
@@ -151,23 +145,6 @@ fn save_on_tablets(c: &mut Comparison, r: &mut Random, keys: &Keys, standing: &m
     add(c, r, keys, standing, other, changed);
     if r.chance(50) {
         let again = notes::other_ends(r, &text);
-        add(c, r, keys, standing, again, tree);
-    }
-}
-
-/// Adds a version whose notes have attributes, and the same text with these in another order, in other quotes and with other
-/// entities, which is the same version; then one that differs in one element's attributes; sometimes the first again.
-fn save_units(c: &mut Comparison, r: &mut Random, keys: &Keys, standing: &mut Standing) {
-    let Some(tree) = versions::with_units(r, keys, standing.trees.last().unwrap()) else { return };
-    let text = versions::spelled(r, keys, &tree);
-    let again = units::other_spelling(r, &text);
-    add(c, r, keys, standing, text.clone(), tree.clone());
-    add(c, r, keys, standing, again, tree.clone());
-    let changed = versions::units_changed(r, &tree);
-    let other = versions::spelled(r, keys, &changed);
-    add(c, r, keys, standing, other, changed);
-    if r.chance(50) {
-        let again = units::other_spelling(r, &text);
         add(c, r, keys, standing, again, tree);
     }
 }
@@ -351,11 +328,10 @@ fn heavy(c: &mut Comparison, r: &mut Random) {
         let name = format!("h{number}");
         let filled = if by_nodes {
             let wanted = r.choose(&[100, 300, 500, 511, 512, 513]);
-            let fill = if r.chance(50) { versions::fill_nodes } else { versions::fill_attributes };
-            fill(r, &keys, &mut tree, wanted, &name)
+            versions::fill_nodes(r, &keys, &mut tree, wanted, &name)
         } else {
             let wanted = r.choose(&[4_000, 9_000, 16_000, 16_384, 16_385]);
-            let byte = r.choose(&[b'\n', b'"', b'a' + number, b'a' + number]);
+            let byte = if r.chance(25) { b'\n' } else { b'a' + number };
             versions::fill_length(r, &keys, &mut tree, wanted, byte)
         };
         if !filled {
@@ -370,9 +346,7 @@ fn heavy(c: &mut Comparison, r: &mut Random) {
     for over in [1usize, 0] {
         let text = if by_nodes {
             let nodes = standing.shelf.archive_nodes();
-            let left = (1_024 + over).saturating_sub(nodes).min(510);
-            let pairs = if r.chance(50) { left / 2 } else { 0 };
-            version_f(&("<g a=''/>".repeat(pairs) + &"<g/>".repeat(left - 2 * pairs)))
+            version_f(&"<g/>".repeat((1_024 + over).saturating_sub(nodes).min(510)))
         } else {
             let mut with_one = standing.archive.clone();
             let one = reference::add(&keys.text, &with_one, &version_f("!"), usize::MAX, reference::WORK_CELLS);

@@ -38,29 +38,6 @@ impl<'a> Call<'a> {
         }
     }
 
-    /// The archive that is lent, if one is.
-    pub fn archive(self) -> Option<&'a [u8]> {
-        match self {
-            Call::Add { archive, .. } | Call::Retrieve { archive, .. } | Call::History { archive, .. } | Call::Back { archive, .. } => Some(archive),
-            Call::BackToMark { archive, .. } | Call::SetMark { archive, .. } | Call::FindMark { archive, .. } => Some(archive),
-            Call::CheckKeys | Call::Found { .. } | Call::LongestHistory { .. } => None,
-        }
-    }
-
-    /// The same call with another archive.
-    pub fn with_archive(self, archive: &'a [u8]) -> Call<'a> {
-        match self {
-            Call::Add { version, .. } => Call::Add { archive, version },
-            Call::Retrieve { i, .. } => Call::Retrieve { archive, i },
-            Call::History { address, .. } => Call::History { archive, address },
-            Call::Back { table, i, .. } => Call::Back { archive, table, i },
-            Call::BackToMark { table, name, .. } => Call::BackToMark { archive, table, name },
-            Call::SetMark { table, name, i, .. } => Call::SetMark { archive, table, name, i },
-            Call::FindMark { table, name, .. } => Call::FindMark { archive, table, name },
-            Call::CheckKeys | Call::Found { .. } | Call::LongestHistory { .. } => self,
-        }
-    }
-
     pub fn has_output(&self) -> bool {
         !matches!(self, Call::CheckKeys | Call::SetMark { .. } | Call::FindMark { .. })
     }

@@ -3,7 +3,6 @@
 use crate::keylists::{Keys, NAMES};
 use crate::notes::{self, Ends};
 use crate::random::{damage_bytes, Random};
-use crate::units::{self, meant, Attribute};
 
 #[derive(Clone)]
 pub enum Item {
@@ -17,7 +16,6 @@ pub enum Item {
 #[derive(Clone)]
 pub struct Tree {
     pub name: String,
-    pub attributes: Vec<Attribute>,
     pub items: Vec<Item>,
     /// The listed path, if it is one; none beneath a frontier.
     pub place: Option<usize>,
@@ -46,7 +44,7 @@ fn element(r: &mut Random, keys: &Keys, place: usize, values: &[&str], budget: &
         let there = &keys.places[child];
         if let Some(number) = here.key_names.iter().position(|name| *name == there.name) {
             let items_of_key = vec![Item::Text(values[number].as_bytes().to_vec())];
-            items.push(Item::Element(Tree { name: there.name.clone(), attributes: vec![], items: items_of_key, place: Some(child) }));
+            items.push(Item::Element(Tree { name: there.name.clone(), items: items_of_key, place: Some(child) }));
             continue;
         }
         let count = if there.key_names.is_empty() { usize::from(r.chance(65)) } else { r.below(4) };
@@ -60,7 +58,7 @@ fn element(r: &mut Random, keys: &Keys, place: usize, values: &[&str], budget: &
             }
         }
     }
-    Tree { name: here.name.clone(), attributes: vec![], items, place: Some(place) }
+    Tree { name: here.name.clone(), items, place: Some(place) }
 }
 
 fn value(r: &mut Random) -> &'static str {
@@ -84,7 +82,7 @@ fn content(r: &mut Random, depth: usize) -> Vec<Item> {
                 if r.chance(30) {
                     items.push(text(r));
                 }
-                items.push(Item::Element(Tree { name: free_name(r), attributes: units::some(r), items: content(r, depth + 1), place: None }));
+                items.push(Item::Element(Tree { name: free_name(r), items: content(r, depth + 1), place: None }));
             }
             if r.chance(30) {
                 items.push(text(r));
@@ -210,34 +208,6 @@ pub fn with_notes(r: &mut Random, keys: &Keys, tree: &Tree) -> Option<Tree> {
     Some(tree)
 }
 
-/// A version like this one, with elements in one of its frontiers that have attributes, up to four deep; none if it has no
-/// frontier for them.
-pub fn with_units(r: &mut Random, keys: &Keys, tree: &Tree) -> Option<Tree> {
-    let mut tree = tree.clone();
-    let frontier = some(r, &mut tree, &|tree| is_plain_frontier(keys, tree))?;
-    let mut items = vec![];
-    for _ in 0..r.choose(&[1, 1, 2, 4]) {
-        let count = r.choose(&[1, 1, 2, 2, 3, 5, 8]);
-        let name = free_name(r);
-        let inside = std::mem::take(&mut items);
-        items.push(Item::Element(Tree { name, attributes: units::of_count(r, count), items: inside, place: None }));
-        if r.chance(30) {
-            items.push(leaf("n", vec![]));
-        }
-    }
-    frontier.items = items;
-    Some(tree)
-}
-
-/// A version like this one, but for the attributes of one of its elements.
-pub fn units_changed(r: &mut Random, tree: &Tree) -> Tree {
-    let mut tree = tree.clone();
-    if let Some(holder) = some(r, &mut tree, &|tree| !tree.attributes.is_empty()) {
-        holder.attributes = units::changed(r, &holder.attributes);
-    }
-    tree
-}
-
 /// A version like this one, but for a byte of one of its notes.
 pub fn note_changed(r: &mut Random, tree: &Tree) -> Tree {
     let mut tree = tree.clone();
@@ -258,7 +228,7 @@ struct Spelling {
     ends: Ends,
 }
 
-/// A spelling of a version: order of siblings and of attributes, white space, line ends, entities, quotes and empty tags by chance.
+/// A spelling of a version: sibling order, white space, line ends, entities and empty tags by chance.
 pub fn spelled(r: &mut Random, keys: &Keys, tree: &Tree) -> Vec<u8> {
     let mut text = vec![];
     let spelling = Spelling { spaced: r.chance(50), ends: notes::any_ends(r) };
@@ -307,12 +277,10 @@ fn spell(r: &mut Random, keys: &Keys, tree: &Tree, spelling: Spelling, text: &mu
     if above {
         white_space(r, spelling, &mut inside);
     }
-    text.extend_from_slice(&[b"<", name].concat());
-    units::spell(r, &tree.attributes, text);
     if inside.is_empty() && r.chance(50) {
-        text.extend_from_slice(b"/>");
+        text.extend_from_slice(&[b"<", name, b"/>"].concat());
     } else {
-        text.extend_from_slice(&[b">", &inside[..], b"</", name, b">"].concat());
+        text.extend_from_slice(&[b"<", name, b">", &inside, b"</", name, b">"].concat());
     }
 }
 
@@ -322,50 +290,45 @@ fn spell_text(r: &mut Random, bytes: &[u8], ends: Ends, text: &mut Vec<u8>) {
             notes::spell_end(r, ends, text);
             continue;
         }
+        let entity: &[u8] = match byte {
+            b'<' => b"&lt;",
+            b'&' => b"&amp;",
+            b'>' => b"&gt;",
+            b'"' => b"&quot;",
+            b'\'' => b"&apos;",
+            _ => b"",
+        };
         let must = matches!(byte, b'<' | b'&') || (byte == b'>' && text.ends_with(b"]]"));
-        units::spell_byte(r, byte, must, 40, text);
+        if !entity.is_empty() && (must || r.chance(40)) {
+            text.extend_from_slice(entity);
+        } else {
+            text.push(byte);
+        }
     }
 }
 
-/// Nodes as documents 01 and 02 count them, of a version with nothing raw.
+/// Nodes as document 01 counts them, of a version with no raw items.
 pub fn nodes(tree: &Tree) -> usize {
-    let is_t = tree.name == "T";
-    let counts = |attribute: &&Attribute| !(is_t && matches!(attribute, Attribute::Meant(name, _) if name == "t"));
-    let own = usize::from(!is_t) + tree.attributes.iter().filter(counts).count();
+    let own = usize::from(tree.name != "T");
     own + tree.items.iter().map(|item| if let Item::Element(child) = item { nodes(child) } else { 1 }).sum::<usize>()
 }
 
-/// The length of the written form, of a version with nothing raw.
+/// The length of the written form, of a version with no raw items.
 pub fn written_length(tree: &Tree) -> usize {
     let length = |byte: &u8| match byte {
         b'&' => 5,
         b'<' | b'>' => 4,
         _ => 1,
     };
-    let in_value = |byte: &u8| match byte {
-        b'"' => 6,
-        b'>' => 1,
-        _ => length(byte),
-    };
-    let attribute = |attribute: &Attribute| match attribute {
-        Attribute::Meant(name, value) => name.len() + 4 + value.iter().map(in_value).sum::<usize>(),
-        Attribute::Raw(bytes) => bytes.len(),
-    };
     let item = |item: &Item| match item {
         Item::Element(child) => written_length(child),
         Item::Text(text) | Item::Raw(text) => text.iter().map(length).sum(),
     };
-    let attributes: usize = tree.attributes.iter().map(attribute).sum();
-    2 * tree.name.len() + 5 + attributes + tree.items.iter().map(item).sum::<usize>()
+    2 * tree.name.len() + 5 + tree.items.iter().map(item).sum::<usize>()
 }
 
 fn leaf(name: &str, items: Vec<Item>) -> Item {
-    Item::Element(Tree { name: name.into(), attributes: vec![], items, place: None })
-}
-
-/// The same with attributes.
-fn leaf_with(name: &str, attributes: Vec<Attribute>) -> Item {
-    Item::Element(Tree { name: name.into(), attributes, items: vec![], place: None })
+    Item::Element(Tree { name: name.into(), items, place: None })
 }
 
 /// Fills a frontier with elements until the version has so many nodes.
@@ -373,19 +336,6 @@ pub fn fill_nodes(r: &mut Random, keys: &Keys, tree: &mut Tree, wanted: usize, n
     let have = nodes(tree);
     let Some(frontier) = some(r, tree, &|tree| is_plain_frontier(keys, tree)) else { return false };
     frontier.items.extend((have..wanted).map(|_| leaf(name, vec![])));
-    have <= wanted
-}
-
-/// Fills a frontier with elements of up to eight attributes until the version has so many nodes.
-pub fn fill_attributes(r: &mut Random, keys: &Keys, tree: &mut Tree, wanted: usize, name: &str) -> bool {
-    let have = nodes(tree);
-    let Some(frontier) = some(r, tree, &|tree| is_plain_frontier(keys, tree)) else { return false };
-    let mut left = wanted.saturating_sub(have);
-    while left > 0 {
-        let count = r.choose(&[1, 3, 8, 8, 8]).min(left - 1);
-        frontier.items.push(leaf_with(name, units::NAMES[..count].iter().map(|name| meant(name, "")).collect()));
-        left -= count + 1;
-    }
     have <= wanted
 }
 
@@ -401,13 +351,6 @@ pub fn fill_length(r: &mut Random, keys: &Keys, tree: &mut Tree, wanted: usize, 
         b'>' => [b"x".repeat(more % 4), b">".repeat(more / 4)].concat(),
         // Lines of five bytes written: with CR LF the text that is lent is shorter still than its written form.
         b'\n' => [b"x".repeat(more % 5), b">\n".repeat(more / 5)].concat(),
-        // In an attribute's value: seven bytes written for two that are meant.
-        b'"' => {
-            let more = more.saturating_sub(5);
-            let value = [b"x".repeat(more % 7), b"\">".repeat(more / 7)].concat();
-            frontier.items.push(leaf_with("z", vec![Attribute::Meant("a".into(), value)]));
-            return true;
-        }
         _ => [byte].repeat(more),
     };
     frontier.items.push(leaf("z", vec![Item::Text(text)]));
@@ -430,11 +373,10 @@ pub fn nest(r: &mut Random, keys: &Keys, tree: &mut Tree, wanted: usize, name: &
     true
 }
 
-const SNIPPETS: [&str; 67] = [
+const SNIPPETS: [&str; 49] = [
     "<!-- c -->", "<?p?>", "<![CDATA[x]]>", "]]>", "]]&gt;", "&#65;", "&#x41;", "&nbsp;", "&lt", "&;", "&", "<", ">", "</", "/>", "<a b=\"c\"/>", "<a >", "</a >", "< a/>", "<a/ >", "<>", "</>",
-    "<T t=\"1\">", "<T>", "</T>", "<T/>", "<a/>", "<a></a>", "x", " ", "&amp;", "<name_of_thirty_three_bytes_xxxxxx/>", "<xml/>", "<a:b/>",
+    "<T t=\"1\">", "<T>", "</T>", "<T/>", "<a/>", "<a></a>", "x", " ", "&amp;", "<name_of_thirty_three_bytes_xxxxxxx/>", "<xml/>", "<a:b/>",
     "\r", "\r\n", "\n\r", "\r\r\n", "\r&lt;", "&lt;\r\n", "]]\r>", "]]\r\n>", "\r]]>", "<a\r/>", "</a\r>", "&lt\r;", "&#13;", "&#xD;", "\r<a>\r\n</a>\r",
-    "<a b='c'/>", "<a b=\"c\" d='e'></a>", "<a d='' b=''/>", "<a b=\"c\" b=\"c\"/>", "<a  b=\"c\"/>", "<a b=\"c\" />", "<a b =\"c\"/>", "<a b=\"<\"/>", "<a b=\"]]>\"/>", "<a b=\"&gt;\"/>", "<a b='\"'/>", "<T t=\"1\"/>", "<T t=\"1\" a=\"\"/>", "<a T=\"1\"/>", " a=\"b\"", " t=\"1\"", "=\"\"", "\"",
 ];
 
 /// A vacant version: empty, or white space alone, now and then as long as a version may be.
@@ -492,9 +434,6 @@ fn damage_tree(r: &mut Random, keys: &Keys, tree: &mut Tree) {
     let above = |tree: &Tree| is_above(keys, tree);
     let keyed = |tree: &Tree| has_key_names(keys, tree);
     let text = |text: &str| Item::Text(text.as_bytes().to_vec());
-    if r.chance(18) {
-        return damage_attributes(r, keys, tree);
-    }
     match r.below(28) {
         // A key child missing, repeated, illegal.
         kind @ (0..=5 | 22 | 23) => {
@@ -552,7 +491,7 @@ fn damage_tree(r: &mut Random, keys: &Keys, tree: &mut Tree) {
         }
         11 => {
             let inside = some(r, tree, &anywhere).unwrap();
-            let around = Tree { name: inside.name.clone(), attributes: vec![], items: vec![Item::Element(inside.clone())], place: inside.place };
+            let around = Tree { name: inside.name.clone(), items: vec![Item::Element(inside.clone())], place: inside.place };
             *inside = around;
         }
         12 => {
@@ -580,11 +519,10 @@ fn damage_tree(r: &mut Random, keys: &Keys, tree: &mut Tree) {
         }
         18 if r.chance(50) => {
             let (wanted, name) = (r.choose(&[511, 512, 512, 513, 513, 600]), r.choose(&["a", "b", "T"]));
-            let fill = if r.chance(50) { fill_nodes } else { fill_attributes };
-            fill(r, keys, tree, wanted, name);
+            fill_nodes(r, keys, tree, wanted, name);
         }
         19 if r.chance(50) => {
-            let (wanted, byte) = (r.choose(&[16_383, 16_384, 16_384, 16_385, 16_385, 17_000]), r.choose(b">>\n\nx\"\""));
+            let (wanted, byte) = (r.choose(&[16_383, 16_384, 16_384, 16_385, 16_385, 17_000]), r.choose(b">>\n\nx"));
             fill_length(r, keys, tree, wanted, byte);
         }
         // White space or text as a run of its own, in any element.
@@ -600,123 +538,4 @@ fn damage_tree(r: &mut Random, keys: &Keys, tree: &mut Tree) {
             element.items.insert(at, Item::Raw(snippet));
         }
     }
-}
-
-/// Attributes where they may not be, too many of them, twice of one name, spelled wrongly, or of an element named `T`.
-fn damage_attributes(r: &mut Random, keys: &Keys, tree: &mut Tree) {
-    let beneath = |tree: &Tree| tree.place.is_none();
-    let listed = |tree: &Tree| tree.place.is_some();
-    let kind = r.below(14);
-    if kind < 8 && ways(tree, &beneath).is_empty() {
-        if let Some(frontier) = some(r, tree, &|tree| is_plain_frontier(keys, tree)) {
-            frontier.items.push(leaf("n", vec![]));
-        }
-    }
-    let free = if kind < 8 { some(r, tree, &beneath) } else { some(r, tree, &listed) };
-    let Some(element) = free else { return };
-    match kind {
-        0 | 1 => {
-            let count = 7 + r.below(6);
-            element.attributes = units::of_count(r, count);
-        }
-        2 => {
-            let count = r.choose(&[1, 2, 3, 8, 9]);
-            element.attributes = units::of_count(r, count);
-            let Attribute::Meant(name, value) = r.pick(&element.attributes).clone() else { return };
-            let value = if r.chance(50) { value } else { units::value(r) };
-            element.attributes.push(Attribute::Meant(name, value));
-        }
-        3..=5 => {
-            let wrong = r.pick(&units::WRONG).as_bytes().to_vec();
-            element.attributes.push(Attribute::Raw(wrong));
-        }
-        6 => element.attributes.push(meant("T", r.choose(&["", "1"]))),
-        // An element named T with a t, and perhaps others, about as many as there may be.
-        7 | 8 => {
-            let count = r.choose(&[0, 0, 0, 1, 2, 7, 8, 9]);
-            let mut attributes = units::of_count(r, count);
-            attributes.retain(|attribute| !matches!(attribute, Attribute::Meant(name, _) if name == "t"));
-            attributes.push(meant("t", r.choose(&["1", "1-2", "", "x"])));
-            element.items.push(leaf_with("T", attributes));
-        }
-        // At or above a frontier.
-        9 => element.attributes.push(meant("T", "1")),
-        10 => {
-            let count = 8 + r.below(3);
-            element.attributes = units::of_count(r, count);
-        }
-        11 => {
-            let wrong = r.pick(&units::WRONG).as_bytes().to_vec();
-            element.attributes.push(Attribute::Raw(wrong));
-        }
-        _ => {
-            let count = r.choose(&[1, 1, 2]);
-            element.attributes = units::of_count(r, count);
-            if r.chance(20) {
-                let (wanted, name) = (r.choose(&[510, 511, 512, 513, 514]), r.choose(&["a", "T"]));
-                fill_attributes(r, keys, tree, wanted, name);
-            }
-        }
-    }
-}
-
-/// A text near a legal version with attributes, wrong in one place: spelled wrongly, a name repeated among few or hundreds, one in
-/// an end tag or twice on an element named `T`, or misplaced in a version of about as many bytes or nodes as one may have.
-pub fn near_units(r: &mut Random, keys: &Keys, tree: &Tree) -> Vec<u8> {
-    let mut tree = with_units(r, keys, tree).unwrap_or(tree.clone());
-    let anywhere = |_: &Tree| true;
-    let beneath = |tree: &Tree| tree.place.is_none();
-    let kind = r.below(14);
-    let element = some(r, &mut tree, if kind < 10 { &beneath } else { &anywhere });
-    let Some(element) = element else { return spelled(r, keys, &tree) };
-    match kind {
-        0..=5 => {
-            let wrong = r.pick(&units::WRONG).as_bytes().to_vec();
-            element.attributes = if r.chance(50) { vec![] } else { units::of_count(r, 1) };
-            element.attributes.push(Attribute::Raw(wrong));
-        }
-        6 | 7 => {
-            let count = r.choose(&[1, 2, 3, 7, 8]);
-            element.attributes = units::of_count(r, count);
-            let again = r.pick(&element.attributes).clone();
-            element.attributes.push(again);
-        }
-        8 => {
-            let count = r.choose(&[9, 16, 33, 64, 254, 255, 256, 257, 300, 600, 1_500]);
-            element.attributes = (0..count).map(|number| meant(&format!("n{number}"), "")).collect();
-            if r.chance(70) {
-                let again = r.pick(&element.attributes).clone();
-                element.attributes.push(again);
-            }
-        }
-        9 | 10 => {
-            let name = r.choose(&["t", "t", "a", "T"]);
-            element.items.push(leaf_with("T", vec![meant("t", "1"), meant(name, "1")]));
-        }
-        11 => {
-            let mut text = spelled(r, keys, &tree);
-            let ends: Vec<usize> = (2..text.len()).filter(|&at| text[at - 2..at] == *b"</").collect();
-            if !ends.is_empty() {
-                let from = r.choose(&ends);
-                let at = from + text[from..].iter().position(|&byte| byte == b'>').unwrap_or(0);
-                let more = r.choose(&[&b" a=\"b\""[..], b" a=\"\"", b" ", b" t='1'"]);
-                text.splice(at..at, more.iter().copied());
-            }
-            return text;
-        }
-        _ => {
-            let value = "x".repeat(r.choose(&[0, 4, 15]));
-            if let Some(element) = some(r, &mut tree, &|tree| tree.place.is_some()) {
-                element.attributes = vec![meant("a", &value)];
-            }
-            if r.chance(50) {
-                let (wanted, byte) = (16_380 + r.below(22), r.choose(b">\""));
-                fill_length(r, keys, &mut tree, wanted, byte);
-            } else {
-                let (wanted, name) = (510 + r.below(5), r.choose(&["a", "T", "t"]));
-                fill_attributes(r, keys, &mut tree, wanted, name);
-            }
-        }
-    }
-    spelled(r, keys, &tree)
 }

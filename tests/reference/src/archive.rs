@@ -38,7 +38,7 @@ fn keyed_element(keys: &KeyList, parent: &[u8], standing: &Standing, parents_set
     if differs {
         out.open_t(&set);
     }
-    out.open(name, &[]);
+    out.open(name);
     if keys.is_frontier(&path) {
         frontier_contents(standing, out);
     } else {
@@ -85,8 +85,7 @@ fn frontier_contents(standing: &Standing, out: &mut Written) {
 ///
 /// If a text is the archive of some versions, then they are its candidates (as version texts in
 /// written form; that of a vacant version is empty). So it is legal exactly if its candidates are legal versions and it is their archive.
-/// A text holding CR is none: a candidate's CR is read as LF, so no archive of the candidates has one. Nor is one
-/// whose attributes are not as written: another order, quote or entity is none of the archive of its candidates.
+/// A text holding CR is none: a candidate's CR is read as LF, so no archive of the candidates has one.
 pub fn versions(keys: &KeyList, text: &[u8]) -> Outcome<Vec<Version>> {
     let candidates = candidates(text).ok_or(10u32)?;
     let versions: Outcome<Vec<Version>> = candidates.iter().map(|text| version::read(keys, text)).collect();
@@ -98,7 +97,7 @@ pub fn versions(keys: &KeyList, text: &[u8]) -> Outcome<Vec<Version>> {
     Ok(versions)
 }
 
-/// A part of an archive's text: a tag of `T`, which has ` t="…"` and nothing else, or other bytes.
+/// A part of an archive's text: a tag of `T`, or other bytes.
 enum Part<'a> {
     OpenT(Timestamp),
     CloseT,
@@ -107,7 +106,7 @@ enum Part<'a> {
 
 /// The texts of the only versions that `text` can be the archive of: version i has the bytes
 /// that are in no `T` without i. None if the text doesn't begin as an archive or its `T`s don't match.
-pub fn candidates(text: &[u8]) -> Option<Vec<Vec<u8>>> {
+fn candidates(text: &[u8]) -> Option<Vec<Vec<u8>>> {
     let parts = parts(text)?;
     let Some(Part::OpenT(all)) = parts.first() else { return None };
     // The outermost set is 1 to n, with n at least 1.
@@ -134,7 +133,6 @@ fn candidate(parts: &[Part], number: usize) -> Option<Vec<u8>> {
     belongs.is_empty().then_some(text)
 }
 
-/// Each `<` of an archive begins a tag: in a written value, as in text, it is `&lt;`.
 fn parts(text: &[u8]) -> Option<Vec<Part<'_>>> {
     let mut parts = vec![];
     let mut rest = text;

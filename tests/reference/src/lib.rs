@@ -1,5 +1,5 @@
-//! The station archive of document 01, with document 02's attributes, marks, line ends,
-//! vacant versions and longest history line: a second implementation, by the definitions.
+//! The station archive of document 01, with document 02's marks, line ends, vacant
+//! versions and longest history line: a second implementation, by the definitions.
 //!
 //! The archive is computed from the list of versions, never by merging. A text is a legal
 //! archive exactly if it is the archive of the only versions that it can be the archive of.
@@ -39,7 +39,6 @@ pub const ADDRESS_BYTES: usize = 2_560;
 pub const VERSION_NODES: usize = 512;
 pub const ARCHIVE_NODES: usize = 1_024;
 pub const DEPTH: usize = 16;
-pub const ATTRIBUTES: usize = 8;
 pub const VERSIONS: usize = 999;
 
 /// Check a key list.

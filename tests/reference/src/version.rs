@@ -1,9 +1,9 @@
 //! Version texts: which are legal, and their written form.
 
 use crate::keys::{join, KeyList};
-use crate::written::{attribute_length, escaped_length, Written};
-use crate::xml::{self, is_value, is_white_space, line_ends, Attribute, Tag, Token};
-use crate::{Outcome, ATTRIBUTES, DEPTH, VERSION_BYTES, VERSION_NODES};
+use crate::written::{escaped_length, Written};
+use crate::xml::{self, is_value, is_white_space, line_ends, Token};
+use crate::{Outcome, DEPTH, VERSION_BYTES, VERSION_NODES};
 use std::collections::BTreeSet;
 
 /// A version: its root, or none if it is vacant. "A version that is empty or white space alone is
@@ -13,9 +13,6 @@ pub type Version = Option<Element>;
 #[derive(Clone, Debug, PartialEq, Eq)]
 pub struct Element {
     pub name: Vec<u8>,
-    /// "They form a set: order does not distinguish contents" (Q-1). So they are ordered by name, as byte strings with a
-    /// prefix first, and elements are equal exactly if their sets are.
-    pub attributes: Vec<Attribute>,
     pub content: Vec<Node>,
 }
 
@@ -38,35 +35,28 @@ pub fn read_received(keys: &KeyList, text: &[u8]) -> Outcome<Version> {
         return Ok(None);
     }
     let tokens = kept(keys, xml::read(text).ok_or(5u32)?);
-    if depth(&tokens) > DEPTH || most_attributes(&tokens) > ATTRIBUTES || nodes(&tokens) > VERSION_NODES || written_length(&tokens) > VERSION_BYTES {
+    if depth(&tokens) > DEPTH || nodes(&tokens) > VERSION_NODES || written_length(&tokens) > VERSION_BYTES {
         return Err(6);
     }
     let root = tree(tokens);
-    judged(keys, &root)?;
+    if !placed(keys, b"", &root) || has_name_t(&root) {
+        return Err(7);
+    }
+    if !key_children(keys, b"", &root) {
+        return Err(8);
+    }
+    if !distinct_siblings(keys, b"", &root) {
+        return Err(9);
+    }
     Ok(Some(root))
 }
 
-/// The refusal of a root, 7 to 9.
-pub fn judged(keys: &KeyList, root: &Element) -> Outcome<()> {
-    if !placed(keys, b"", root) || has_name_t(root) {
-        return Err(7);
-    }
-    if !key_children(keys, b"", root) {
-        return Err(8);
-    }
-    if !distinct_siblings(keys, b"", root) {
-        return Err(9);
-    }
-    Ok(())
-}
-
-/// Without the runs of white space directly in an element whose path is listed and no frontier. Attributes are no part
-/// of a path.
-pub fn kept(keys: &KeyList, tokens: Vec<Token>) -> Vec<Token> {
+/// Without the runs of white space directly in an element whose path is listed and no frontier.
+fn kept(keys: &KeyList, tokens: Vec<Token>) -> Vec<Token> {
     let mut path = vec![];
     let keep = |token: &Token| {
         match token {
-            Token::Open(tag) => path = join(&path, &tag.name),
+            Token::Open(name) => path = join(&path, name),
             Token::Close => path.truncate(path.iter().rposition(|&byte| byte == b'/').unwrap()),
             Token::Run(run) => return !(is_white_space(run) && keys.is_above_frontiers(&path)),
         }
@@ -76,7 +66,7 @@ pub fn kept(keys: &KeyList, tokens: Vec<Token>) -> Vec<Token> {
 }
 
 /// 6: the root is 1 deep. An element named `T` counts here.
-pub fn depth(tokens: &[Token]) -> usize {
+fn depth(tokens: &[Token]) -> usize {
     let (mut open, mut deepest) = (0, 0);
     for token in tokens {
         match token {
@@ -89,43 +79,33 @@ pub fn depth(tokens: &[Token]) -> usize {
     deepest
 }
 
-/// 6: "a ninth is 6" (Q-1): the most attributes of an element, whatever its name and wherever it stands.
-pub fn most_attributes(tokens: &[Token]) -> usize {
-    let count = |token: &Token| if let Token::Open(tag) = token { tag.attributes.len() } else { 0 };
-    tokens.iter().map(count).max().unwrap_or(0)
-}
-
-/// 6: nodes are elements, those named `T` not counted, their attributes, "a `T`'s `t` excepted" (Q-1), and kept runs.
-pub fn nodes(tokens: &[Token]) -> usize {
-    let count = |token: &Token| match token {
-        Token::Open(tag) if tag.name == b"T" => tag.attributes.iter().filter(|attribute| attribute.name != b"t").count(),
-        Token::Open(tag) => 1 + tag.attributes.len(),
-        Token::Close => 0,
-        Token::Run(_) => 1,
+/// 6: nodes are elements, those named `T` not counted, and kept runs.
+fn nodes(tokens: &[Token]) -> usize {
+    let counts = |token: &&Token| match token {
+        Token::Open(name) => name != b"T",
+        Token::Close => false,
+        Token::Run(_) => true,
     };
-    tokens.iter().map(count).sum()
+    tokens.iter().filter(counts).count()
 }
 
-/// 6: the length of the written form; the order of siblings and of attributes doesn't matter for it.
-pub fn written_length(tokens: &[Token]) -> usize {
+/// 6: the length of the written form; the order of siblings doesn't matter for it.
+fn written_length(tokens: &[Token]) -> usize {
     let length = |token: &Token| match token {
-        Token::Open(Tag { name, attributes }) => name.len() + 2 + name.len() + 3 + attributes.iter().map(attribute_length).sum::<usize>(),
+        Token::Open(name) => name.len() + 2 + name.len() + 3,
         Token::Close => 0,
         Token::Run(run) => escaped_length(run),
     };
     tokens.iter().map(length).sum()
 }
 
-/// The root element, from tokens at most sixteen deep. Here its attributes are put in order.
-pub fn tree(tokens: Vec<Token>) -> Element {
+/// The root element, from tokens at most sixteen deep.
+fn tree(tokens: Vec<Token>) -> Element {
     // The lowest element stands for what is around the root.
-    let mut open = vec![Element { name: vec![], attributes: vec![], content: vec![] }];
+    let mut open = vec![Element { name: vec![], content: vec![] }];
     for token in tokens {
         match token {
-            Token::Open(Tag { name, mut attributes }) => {
-                attributes.sort_by(|one, other| one.name.cmp(&other.name));
-                open.push(Element { name, attributes, content: vec![] });
-            }
+            Token::Open(name) => open.push(Element { name, content: vec![] }),
             Token::Close => {
                 let closed = open.pop().unwrap();
                 open.last_mut().unwrap().content.push(Node::Element(closed));
@@ -139,12 +119,11 @@ pub fn tree(tokens: Vec<Token>) -> Element {
     }
 }
 
-/// 7: above or at a frontier each path is listed and no element has an attribute, and above one there is no text.
+/// 7: above or at a frontier each path is listed, and above one there is no text.
 fn placed(keys: &KeyList, parent: &[u8], element: &Element) -> bool {
     let path = join(parent, &element.name);
     match keys.get(&path) {
         None => false,
-        Some(_) if !element.attributes.is_empty() => false,
         Some(listed) if listed.frontier => true,
         Some(_) => element.content.iter().all(|node| match node {
             Node::Text(_) => false,
@@ -153,10 +132,9 @@ fn placed(keys: &KeyList, parent: &[u8], element: &Element) -> bool {
     }
 }
 
-/// 7: the name `T` anywhere, of an element or of an attribute.
+/// 7: the name `T` anywhere.
 fn has_name_t(element: &Element) -> bool {
-    let attribute = element.attributes.iter().any(|attribute| attribute.name == b"T");
-    element.name == b"T" || attribute || elements(element).any(has_name_t)
+    element.name == b"T" || elements(element).any(has_name_t)
 }
 
 /// 8: each element with key names has each key child just once, with a legal value.
@@ -220,8 +198,7 @@ pub fn written(keys: &KeyList, version: &Version) -> Written {
 
 fn write(keys: &KeyList, parent: &[u8], element: &Element, out: &mut Written) {
     let path = join(parent, &element.name);
-    // It has no attributes: they are strictly beneath a frontier.
-    out.open(&element.name, &[]);
+    out.open(&element.name);
     if keys.is_frontier(&path) {
         out.content(&element.content);
     } else {

@@ -1,6 +1,4 @@
-//! The XML subset ("Version texts", first paragraph): bytes, names, line ends (Q-4), tags, attributes (Q-1), text.
-
-use std::collections::BTreeSet;
+//! The XML subset ("Version texts", first paragraph): bytes, names, line ends (Q-4), tags, text.
 
 #[derive(Clone, Copy, Debug, PartialEq, Eq)]
 pub enum Class {
@@ -55,25 +53,11 @@ pub fn line_ends(text: &[u8]) -> Vec<u8> {
     received
 }
 
-/// An attribute (Q-1): its name, and what its value stands for, entities replaced.
-#[derive(Clone, Debug, PartialEq, Eq)]
-pub struct Attribute {
-    pub name: Vec<u8>,
-    pub value: Vec<u8>,
-}
-
-/// A start or empty tag. Its attributes are in the order they have in the text; no two have one name.
-#[derive(Clone, Debug, PartialEq, Eq)]
-pub struct Tag {
-    pub name: Vec<u8>,
-    pub attributes: Vec<Attribute>,
-}
-
 /// A text of the subset, part by part. A run stands between two tags, so it is maximal;
 /// it is never empty, and its entities are replaced by what they stand for.
 #[derive(Clone, Debug, PartialEq, Eq)]
 pub enum Token {
-    Open(Tag),
+    Open(Vec<u8>),
     Close,
     Run(Vec<u8>),
 }
@@ -82,26 +66,33 @@ pub enum Token {
 /// none if the text is not in the subset.
 pub fn read(text: &[u8]) -> Option<Vec<Token>> {
     let mut tokens = vec![];
-    let mut open: Vec<Vec<u8>> = vec![];
+    let mut open: Vec<&[u8]> = vec![];
     let mut rest = text;
     while !rest.is_empty() {
-        if let Some(after) = rest.strip_prefix(b"</") {
-            rest = after.strip_prefix(&open.pop()?[..])?.strip_prefix(b">")?;
-            tokens.push(Token::Close);
-        } else if let Some(after) = rest.strip_prefix(b"<") {
-            let second_root = open.is_empty() && !tokens.is_empty();
-            if second_root {
-                return None;
-            }
-            let (tag, after) = tag(after)?;
-            let name = tag.name.clone();
-            tokens.push(Token::Open(tag));
-            if let Some(after) = after.strip_prefix(b"/>") {
+        if rest[0] == b'<' {
+            let end = rest.iter().position(|&byte| byte == b'>')?;
+            let tag = &rest[1..end];
+            rest = &rest[end + 1..];
+            if let Some(name) = tag.strip_prefix(b"/") {
+                if open.pop()? != name {
+                    return None;
+                }
                 tokens.push(Token::Close);
-                rest = after;
             } else {
-                open.push(name);
-                rest = after.strip_prefix(b">")?;
+                let second_root = open.is_empty() && !tokens.is_empty();
+                let (name, empty) = match tag.strip_suffix(b"/") {
+                    Some(name) => (name, true),
+                    None => (tag, false),
+                };
+                if second_root || !is_name(name) {
+                    return None;
+                }
+                tokens.push(Token::Open(name.to_vec()));
+                if empty {
+                    tokens.push(Token::Close);
+                } else {
+                    open.push(name);
+                }
             }
         } else {
             let end = rest.iter().position(|&byte| byte == b'<').unwrap_or(rest.len());
@@ -118,54 +109,6 @@ pub fn read(text: &[u8]) -> Option<Vec<Token>> {
     one_root.then_some(tokens)
 }
 
-/// The name and the attributes of a start or empty tag, after its `<`, and what follows them. One space is before
-/// each attribute; "a repeated name is 5", and any number of attributes is in the subset (Q-1).
-pub fn tag(text: &[u8]) -> Option<(Tag, &[u8])> {
-    let (name, mut rest) = name(text)?;
-    let mut attributes = vec![];
-    let mut names = BTreeSet::new();
-    while let Some(after) = rest.strip_prefix(b" ") {
-        let (attribute, after) = attribute(after)?;
-        if !names.insert(attribute.name.clone()) {
-            return None;
-        }
-        attributes.push(attribute);
-        rest = after;
-    }
-    Some((Tag { name, attributes }, rest))
-}
-
-/// The name that a text begins with, as long as it can be, and what follows it.
-fn name(text: &[u8]) -> Option<(Vec<u8>, &[u8])> {
-    let is_name_byte = |&byte: &u8| matches!(class(byte), Class::NameStart | Class::OtherName);
-    let end = text.iter().position(|byte| !is_name_byte(byte)).unwrap_or(text.len());
-    let (name, rest) = text.split_at(end);
-    is_name(name).then(|| (name.to_vec(), rest))
-}
-
-/// The attribute that a text begins with, and what follows it: a name, `=` without spaces, a value in either quote.
-fn attribute(text: &[u8]) -> Option<(Attribute, &[u8])> {
-    let (name, rest) = name(text)?;
-    let (quote, rest) = rest.strip_prefix(b"=")?.split_first()?;
-    if !matches!(quote, b'"' | b'\'') {
-        return None;
-    }
-    let end = rest.iter().position(|byte| byte == quote)?;
-    let value = value_of(&rest[..end])?;
-    Some((Attribute { name, value }, &rest[end + 1..]))
-}
-
-/// What a raw value stands for; none if it isn't legal. It has "the text bytes except tab, LF and CR", `<` and `&` only
-/// as entities; it "may be empty and may hold `]]>`" (Q-1).
-fn value_of(raw: &[u8]) -> Option<Vec<u8>> {
-    let legal = raw.iter().all(|&byte| (0x20..=0x7E).contains(&byte) && byte != b'<');
-    if legal {
-        decoded(raw)
-    } else {
-        None
-    }
-}
-
 const ENTITIES: [(&[u8], u8); 5] =
     [(b"&lt;", b'<'), (b"&gt;", b'>'), (b"&amp;", b'&'), (b"&quot;", b'"'), (b"&apos;", b'\'')];
 
@@ -174,13 +117,8 @@ fn text_of(run: &[u8]) -> Option<Vec<u8>> {
     if run.windows(3).any(|three| three == b"]]>") {
         return None;
     }
-    decoded(run)
-}
-
-/// Legal bytes with each entity replaced by what it stands for; none if there is another byte, or `&` otherwise.
-fn decoded(raw: &[u8]) -> Option<Vec<u8>> {
     let mut text = vec![];
-    let mut rest = raw;
+    let mut rest = run;
     while let Some(&byte) = rest.first() {
         if byte == b'&' {
             let (entity, meant) = ENTITIES.iter().find(|(entity, _)| rest.starts_with(entity))?;

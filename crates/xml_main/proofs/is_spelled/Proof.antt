@@ -13,9 +13,9 @@ use Rattle.xml_main.proofs.is_spelled.Statement.{statement}
 use Rattle.xml_main.proofs.is_spelled.Tie as tie
 
 -- the nodes that were read are a forest
-lies : (src cells : List ℕ) {r : Reply} {n : ℕ} → r ≡ Done n → Replied false src cells r → Valid src cells 0 n
-lies src cells {n = n} e x =
-    let g : Filled false src cells n = subst (Replied false src cells) e x in
+lies : (src before cells : List ℕ) {r : Reply} {n : ℕ} → r ≡ Done n → Replied false src before cells r → Valid src cells 0 n
+lies src before cells {n = n} e x =
+    let g : Filled false src before cells n = subst (Replied false src before cells) e x in
     record { forest = g.forest; tape = g.tape }
 
 returns : tie.Need-returns
@@ -37,7 +37,7 @@ slice-aggregate-spelled : tie.Need-slice-aggregate-spelled
 slice-aggregate-spelled c = search rules
 
 spelled-requires : tie.Need-spelled-requires
-spelled-requires c κs = (lies _ _ c.before.before.hi.given.1 c.before.before.before.before.before.read.ensures, omega arith)
+spelled-requires c κs = (lies _ _ _ c.before.before.hi.given.1 c.before.before.before.before.before.read.ensures, omega arith)
 
 enum-known-p : tie.Need-enum-known-p
 enum-known-p c = search rules

@@ -4,9 +4,8 @@
 //! in strict order, each `T` a set that may be there, contents of a frontier distinct and their
 //! sets a partition, and the sizes of all versions by differences over the runs of the sets.
 
-use super::attributes;
 use super::keys::{KeyList, NONE};
-use super::text::{hash, is_value, name_end, ordinary_end, stands, stands_name, Span};
+use super::text::{is_value, name_end, ordinary_end, stands, stands_name, Span};
 use super::timestamp::{Run, Runs, Timestamp};
 use super::version::written_entity;
 use super::{ARCHIVE_NODES, DEPTH, VERSIONS, VERSION_BYTES, VERSION_NODES};
@@ -83,7 +82,7 @@ fn size(nodes: u32, bytes: usize) -> u64 {
     u64::from(nodes) << 32 | bytes as u64
 }
 
-/// A node takes at least three bytes, an attribute five, so in so short an archive no version is too large.
+/// A node takes at least three bytes, so in so short an archive no version is too large.
 const SMALL: usize = 3 * VERSION_NODES as usize;
 
 struct Reader<'a> {
@@ -385,14 +384,13 @@ impl<'a> Reader<'a> {
                 at = self.past_name(at + 1, self.open[level].of(text))?;
             } else {
                 let end = name_end(text, at)?;
-                if depth + level == DEPTH || &text[at..end] == b"T" {
+                if depth + level == DEPTH || &text[at..end] == b"T" || *text.get(end)? != b'>' {
                     return None;
                 }
                 self.open[level] = Span::new(at, end);
                 level += 1;
-                let (end, count) = attributes::written(text, end)?;
-                nodes += 1 + count;
-                at = self.past(end, b">")?;
+                nodes += 1;
+                at = end + 1;
             }
         }
         self.archive.nodes += nodes;
@@ -436,6 +434,17 @@ fn text_end(text: &[u8], mut at: usize) -> Option<usize> {
             _ => return None,
         }
     }
+}
+
+/// By eight bytes at a time.
+fn hash(bytes: &[u8]) -> u64 {
+    const FACTOR: u64 = 0x9E37_79B9_7F4A_7C15;
+    let mix = |hash: u64, word: u64| (hash.rotate_left(23) ^ word).wrapping_mul(FACTOR);
+    let chunks = bytes.chunks_exact(8);
+    let rest = chunks.remainder().iter().fold(bytes.len() as u64, |word, &byte| word << 8 | u64::from(byte));
+    let hash = chunks.fold(FACTOR, |hash, chunk| mix(hash, u64::from_le_bytes(chunk.try_into().unwrap_or_default())));
+    let hash = mix(hash, rest);
+    hash ^ hash >> 32
 }
 
 const _: () = assert!(VERSIONS < 1_024);

@@ -1,5 +1,5 @@
-//! Document 01's six calls, document 02's three over marks and its longest history, with attributes, line ends and vacant
-//! versions, plain and fast: what one would write for speed, without proofs.
+//! Document 01's six calls, document 02's three over marks and its longest history, with line ends and vacant versions,
+//! plain and fast: what one would write for speed, without proofs.
 //!
 //! Texts are read in one pass into flat arrays; siblings are merged by two pointers; an archive
 //! is checked where it stands, and unchanged parts of it are copied as they are. The work is on
@@ -7,7 +7,6 @@
 
 mod address;
 mod archive;
-mod attributes;
 mod keys;
 mod marks;
 mod text;
@@ -27,7 +26,6 @@ const ADDRESS_BYTES: usize = 2_560;
 const VERSION_NODES: u32 = 512;
 const ARCHIVE_NODES: u32 = 1_024;
 const DEPTH: usize = 16;
-const ATTRIBUTES: usize = 8;
 const VERSIONS: u16 = 999;
 
 /// Check a key list.

@@ -8,20 +8,15 @@ pub const WHITE: u8 = 2;
 pub const NAME: u8 = 4;
 /// Letters and `_`.
 pub const START: u8 = 8;
-/// Legal in an attribute's value and the same in written form, whatever quote is around it.
-pub const VALUE: u8 = 16;
 
 const fn class_of(byte: u8) -> u8 {
     match byte {
-        b'\t' | b'\n' => ORDINARY | WHITE,
-        b' ' => ORDINARY | WHITE | VALUE,
+        b'\t' | b'\n' | b' ' => ORDINARY | WHITE,
         b'\r' => WHITE,
-        b'A'..=b'Z' | b'a'..=b'z' | b'_' => ORDINARY | NAME | START | VALUE,
-        b'0'..=b'9' | b'.' | b'-' => ORDINARY | NAME | VALUE,
-        b'<' | b'&' => 0,
-        b'>' => VALUE,
-        b'"' | b'\'' => ORDINARY,
-        0x20..=0x7E => ORDINARY | VALUE,
+        b'A'..=b'Z' | b'a'..=b'z' | b'_' => ORDINARY | NAME | START,
+        b'0'..=b'9' | b'.' | b'-' => ORDINARY | NAME,
+        b'<' | b'&' | b'>' => 0,
+        0x20..=0x7E => ORDINARY,
         _ => 0,
     }
 }
@@ -141,15 +136,4 @@ pub fn ordinary_end(text: &[u8], mut at: usize) -> usize {
 fn all_ordinary(chunk: &[u8; 16]) -> bool {
     let odd = |byte: u8| ((byte.wrapping_sub(0x20) > 0x5E) & (byte != b'\n')) | (byte == b'<') | (byte == b'&') | (byte == b'>');
     !chunk.iter().fold(false, |any, &byte| any | odd(byte))
-}
-
-/// A hash of bytes, by eight at a time.
-pub fn hash(bytes: &[u8]) -> u64 {
-    const FACTOR: u64 = 0x9E37_79B9_7F4A_7C15;
-    let mix = |hash: u64, word: u64| (hash.rotate_left(23) ^ word).wrapping_mul(FACTOR);
-    let chunks = bytes.chunks_exact(8);
-    let rest = chunks.remainder().iter().fold(bytes.len() as u64, |word, &byte| word << 8 | u64::from(byte));
-    let hash = chunks.fold(FACTOR, |hash, chunk| mix(hash, u64::from_le_bytes(chunk.try_into().unwrap_or_default())));
-    let hash = mix(hash, rest);
-    hash ^ hash >> 32
 }

@@ -1,9 +1,8 @@
 //! Version texts: one pass that finds 5 to 9, orders siblings and writes the frontiers.
 
-use super::attributes::{self, Attribute};
 use super::keys::{KeyList, NONE};
 use super::text::{is_value, name_end, ordinary_end, same, stands, stands_name, white_end, Span};
-use super::{Outcome, ATTRIBUTES, DEPTH, VERSION_BYTES, VERSION_NODES};
+use super::{Outcome, DEPTH, VERSION_BYTES, VERSION_NODES};
 use std::cmp::Ordering;
 
 /// An element above or at a frontier.
@@ -115,12 +114,8 @@ struct Reader<'a> {
     open: Vec<Open>,
     /// Elements that are closed, whose parents are open.
     closed: Vec<u16>,
-    /// The attributes of the tag at hand, in the order of their names.
-    attributes: Vec<Attribute>,
     deepest: usize,
     nodes: u32,
-    /// An element has more than eight attributes.
-    many: bool,
     misplaced: bool,
     bad_key: bool,
     doubled: bool,
@@ -137,7 +132,7 @@ pub fn read(keys: &KeyList, text: &[u8]) -> Outcome<Version> {
         length: 0,
     };
     let (open, closed) = (Vec::with_capacity(DEPTH), Vec::with_capacity(capacity));
-    let mut reader = Reader { keys, text, version, open, closed, attributes: vec![], deepest: 0, nodes: 0, many: false, misplaced: false, bad_key: false, doubled: false };
+    let mut reader = Reader { keys, text, version, open, closed, deepest: 0, nodes: 0, misplaced: false, bad_key: false, doubled: false };
     reader.document().ok_or(5u32)?;
     reader.refusal()?;
     Ok(reader.version)
@@ -147,7 +142,7 @@ impl Reader<'_> {
     fn refusal(&self) -> Outcome<()> {
         let large = self.nodes > VERSION_NODES || self.version.length > VERSION_BYTES;
         match () {
-            _ if self.deepest > DEPTH || self.many || large => Err(6),
+            _ if self.deepest > DEPTH || large => Err(6),
             _ if self.misplaced => Err(7),
             _ if self.bad_key => Err(8),
             _ if self.doubled => Err(9),
@@ -186,11 +181,8 @@ impl Reader<'_> {
             self.close();
             return Some(end + 1);
         }
-        let mut end = name_end(self.text, at + 1)?;
+        let end = name_end(self.text, at + 1)?;
         self.open(Span::new(at + 1, end));
-        if stands(self.text, end, b" ") {
-            end = self.attributes(end)?;
-        }
         match self.text.get(end)? {
             b'>' => Some(end + 1),
             b'/' if stands(self.text, end + 1, b">") => {
@@ -223,38 +215,6 @@ impl Reader<'_> {
         let hint = if above { self.keys.first_rank(path) } else { NONE };
         self.open.push(Open { name, path, above, hint, element, nodes, closed });
         self.deepest = self.deepest.max(self.open.len());
-    }
-
-    /// The attributes of the element that has just been opened, and the place after them: they go into its first tag. At or above
-    /// a frontier they are misplaced, and count only. Not inlined, so that tags without them are as fast as before.
-    #[inline(never)]
-    fn attributes(&mut self, at: usize) -> Option<usize> {
-        let end = attributes::read(self.text, at, &mut self.attributes)?;
-        let open = self.open.last()?;
-        let name = |attribute: &Attribute| attribute.name.of(self.text);
-        let is_t = open.name.of(self.text) == b"T";
-        let own = self.attributes.iter().filter(|attribute| is_t && name(attribute) == b"t").count();
-        self.nodes += (self.attributes.len() - own) as u32;
-        self.many |= self.attributes.len() > ATTRIBUTES;
-        self.misplaced |= open.path != NONE || self.attributes.iter().any(|attribute| name(attribute) == b"T");
-        // Whatever follows is refused, with 5 or 6.
-        if self.many {
-            return Some(end);
-        }
-        let out = &mut self.version.frontiers;
-        if open.path == NONE {
-            // The `>` after the name.
-            out.pop();
-        }
-        let before = out.len();
-        attributes::write(self.text, &self.attributes, out);
-        self.version.length += out.len() - before;
-        if open.path == NONE {
-            out.push(b'>');
-        } else {
-            out.truncate(before);
-        }
-        Some(end)
     }
 
     /// The path of an element that is about to be opened. None beneath a frontier, or if it is

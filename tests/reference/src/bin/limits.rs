@@ -304,44 +304,6 @@ fn line_ends() {
     founds("refusal 6 with CR LF", &version(">\r\n", 3_275, ""), ROOM);
 }
 
-/// So many attributes, at most eight, of names `a` to `h` and empty values, each after a space.
-fn attributes_of(count: usize) -> &'static str {
-    &" a=\"\" b=\"\" c=\"\" d=\"\" e=\"\" f=\"\" g=\"\" h=\"\""[..5 * count]
-}
-
-/// A version whose one frontier holds so many times an element with eight attributes, and then one with so many.
-fn nodes_of(nines: usize, last: usize) -> Vec<u8> {
-    let nine = format!("<n{}/>", attributes_of(8));
-    format!("<s><f>{}<n{}/></f></s>", nine.repeat(nines), attributes_of(last)).into_bytes()
-}
-
-/// Attributes (Q-1): their written form, the refusals 5 to 7, nodes, archives not as written, contents that are one.
-fn attributes() {
-    founds("attributes written", b"<s><f><n b='\"' a=\"&gt;]]>&apos;\"/></f></s>", ROOM);
-    founds("8 attributes", b"<s><f><n a=\"\" b=\"\" c=\"\" d=\"\" e=\"\" f=\"\" g=\"\" h=\"\"/></f></s>", ROOM);
-    founds("9 attributes", b"<s><f><n a=\"\" b=\"\" c=\"\" d=\"\" e=\"\" f=\"\" g=\"\" h=\"\" i=\"\"/></f></s>", ROOM);
-    founds("9 attributes, repeated", b"<s><f><n a=\"\" b=\"\" c=\"\" d=\"\" e=\"\" f=\"\" g=\"\" h=\"\" a=\"\"/></f></s>", ROOM);
-    let one = founds("512 nodes with attributes", &nodes_of(56, 5), ROOM).bytes;
-    founds("513 nodes with attributes", &nodes_of(56, 6), ROOM);
-    let two = adds("1,021 nodes with attributes", &one, &nodes_of(56, 4), ROOM).bytes;
-    adds("1,024 nodes with attributes", &two, &nodes_of(0, 2), ROOM);
-    adds("refusal 13 with attributes", &two, &nodes_of(0, 3), ROOM);
-    founds("repeated name", b"<s><f><n a=\"1\" a=\"2\"/></f></s>", ROOM);
-    founds("attribute of a frontier", b"<s><f a=\"1\"/></s>", ROOM);
-    founds("attribute of a keyed element", b"<s><k a=\"1\"><p>1</p></k></s>", ROOM);
-    founds("attribute T", b"<s><f><n T=\"1\"/></f></s>", ROOM);
-    founds("T in a version", b"<T t=\"1\"/>", ROOM);
-    founds("attribute after two spaces", b"<s><f><n  a=\"1\"/></f></s>", ROOM);
-    retrieves("archive in another order", b"<T t=\"1\"><s><f><n b=\"\" a=\"\"></n></f></s></T>", 1, ROOM);
-    retrieves("archive with the other quote", b"<T t=\"1\"><s><f><n a='1'></n></f></s></T>", 1, ROOM);
-    retrieves("archive with another entity", b"<T t=\"1\"><s><f><n a=\"&gt;\"></n></f></s></T>", 1, ROOM);
-    let one = founds("units founded", b"<s><f><n unit=\"h\" at='\"6\"'/></f></s>", ROOM).bytes;
-    let two = adds("units in another order", &one, b"<s><f><n at=\"&quot;6&quot;\" unit='h'></n></f></s>", ROOM).bytes;
-    let three = adds("another unit", &two, b"<s><f><n at='\"6\"' unit=\"min\"/></f></s>", ROOM).bytes;
-    retrieves("units retrieved", &three, 2, ROOM);
-    backs("units back", &three, 2, ROOM);
-}
-
 fn main() {
     sizes();
     outputs();
@@ -358,5 +320,4 @@ fn main() {
     vacancies(two);
     lines();
     line_ends();
-    attributes();
 }

@@ -12,7 +12,7 @@ use Rattle.xml.specs.Bytes.{Bytes}
 use Rattle.xml.specs.Forest.{Forest}
 use Rattle.xml.specs.OverLaws.{length_at, lent_back}
 use Rattle.xml.specs.Tape.{next_at}
-use Rattle.xml.specs.TapeLaws.{front, tagged_is, tagged-start, tape-le, tape-most}
+use Rattle.xml.specs.TapeLaws.{front, tape-le}
 use Rattle.keys.specs.KeyList.{Path, KeyList, above}
 use Rattle.keys.specs.Version.{◌▸◌, label}
 use Rattle.keys.specs.Table.{place_of, Table}
@@ -41,7 +41,6 @@ use Rattle.adding.proofs.sibling.own_place.Reads as own-place-reads
 use Rattle.adding.proofs.sibling.set_of.Reads as set-of-reads
 use Rattle.adding.proofs.sibling.write_new.Reads as write-new-reads
 use Rattle.adding.proofs.sibling.write_old.Reads as write-old-reads
-use Rattle.walks.proofs.count.count_nodes.Reads as count-nodes-reads
 use Rattle.walks.proofs.timed.put_newest.Reads as put-newest-reads
 use Rattle.keys.proofs.places.is_above.Reads as is-above-reads
 use Rattle.xml.proofs.tape.view_at.Reads as view-at-reads
@@ -70,10 +69,10 @@ abbrev write-both-below : ℕ → In 7 write-both-kinds.ps
 write-both-below t = and 7 write-both-kinds.ps (falls 7 write-both-kinds.ps ◌<◌ μ-write-both t) write-both.Pre
 
 abbrev write-added-calls : ℕ → write-added-lts.Claims
-write-added-calls t = (is-above-reads.Asked, is-above-reads.Learnt, write-contents-reads.Asked, write-contents-reads.Learnt, own-place-reads.Asked, own-place-reads.Learnt, order-of-reads.Asked, order-of-reads.Learnt, least-reads.Asked, least-reads.Learnt, view-at-reads.Asked, view-at-reads.Learnt, put-newest-reads.Asked, put-newest-reads.Learnt, count-nodes-reads.Asked, count-nodes-reads.Learnt, write-old-reads.Asked, write-old-reads.Learnt, write-both-below t, write-both.Post, write-new-reads.Asked, write-new-reads.Learnt)
+write-added-calls t = (is-above-reads.Asked, is-above-reads.Learnt, write-contents-reads.Asked, write-contents-reads.Learnt, own-place-reads.Asked, own-place-reads.Learnt, order-of-reads.Asked, order-of-reads.Learnt, least-reads.Asked, least-reads.Learnt, view-at-reads.Asked, view-at-reads.Learnt, put-newest-reads.Asked, put-newest-reads.Learnt, write-old-reads.Asked, write-old-reads.Learnt, write-both-below t, write-both.Post, write-new-reads.Asked, write-new-reads.Learnt)
 
 abbrev write-added-Inv-loop : write-added-lts.invariant-loop
-write-added-Inv-loop text table paths place src tape lo hi vsrc vtape vlo vhi n around out₀ at p₀ q₀ to₀ fresh₀ out p q to fresh = (lo ≤ p) × (vlo ≤ q) × (to + 262144 * (hi - p + (vhi - q)) ≤ at + 262144 * (hi - lo + (vhi - vlo))) × (fresh ≤ 8192 * (q - vlo)) × (length out ≡ length out₀) × ((K : KeyList) (w : Path) (u : Times) (f v : Forest) → Held text table paths place src tape lo hi vsrc vtape vlo vhi n around.start around.end K w u f v → above K w ≡ true → Way src tape p hi vsrc vtape q vhi n K w u (add_in K n w u f v) f out₀ at to out fresh)
+write-added-Inv-loop text table paths place src tape lo hi vsrc vtape vlo vhi n around out₀ at p₀ q₀ to₀ fresh₀ out p q to fresh = (lo ≤ p) × (vlo ≤ q) × (to + 262144 * (hi - p + (vhi - q)) ≤ at + 262144 * (hi - lo + (vhi - vlo))) × (fresh + (vhi - q) ≤ vhi - vlo) × (length out ≡ length out₀) × ((K : KeyList) (w : Path) (u : Times) (f v : Forest) → Held text table paths place src tape lo hi vsrc vtape vlo vhi n around.start around.end K w u f v → above K w ≡ true → Way src tape p hi vsrc vtape q vhi n K w u (add_in K n w u f v) f out₀ at to out fresh)
 
 abbrev write-added-μ-loop : write-added-lts.decreases-loop
 write-added-μ-loop text table paths place src tape lo hi vsrc vtape vlo vhi n around out₀ at p₀ q₀ to₀ fresh₀ out p q to fresh = hi - p + (vhi - q)
@@ -113,7 +112,7 @@ module _ (t : ℕ) where
       there x c.before.before.before.before.before.loop-test.true (λ z. omega (arith, e, z))
 
   grown : (c : write-added-lts.After-write-both (write-added-calls t) (write-added-at t) write-added.Post write-added-Inv-loop write-added-μ-loop) → Grew c.before.before.before.before.before.before.before.before.loop.out c.before.before.before.before.before.before.before.before.loop.to (both_part c.before.before.before.before.before.before.before.before.before.before.before.before.before.before.before.before.before.before.args.n (next_of (way c.before.before.before.before.before.before.before.before) c.before.before.before.before.before.before.before.loop-test.true).own (next_of (way c.before.before.before.before.before.before.before.before) c.before.before.before.before.before.before.before.loop-test.true).name (inside c.before.before.before.before.before.before.before.before.before.before.before.before.before.before.before.before.before.before.requires.1.0.key_list c.before.before.before.before.before.before.before.before.before.before.before.before.before.before.before.before.before.before.args.n (c.before.before.before.before.before.before.before.before.before.before.before.before.before.before.before.before.before.before.requires.1.0.path ▸ (next_of (way c.before.before.before.before.before.before.before.before) c.before.before.before.before.before.before.before.loop-test.true).name) (set_in c.before.before.before.before.before.before.before.before.before.before.before.before.before.before.before.before.before.before.args.n c.before.before.before.before.before.before.before.before.before.before.before.before.before.before.before.before.before.before.requires.1.0.times (next_of (way c.before.before.before.before.before.before.before.before) c.before.before.before.before.before.before.before.loop-test.true).own) (next_of (way c.before.before.before.before.before.before.before.before) c.before.before.before.before.before.before.before.loop-test.true).kids (other_of (way c.before.before.before.before.before.before.before.before) (matched c.before.before)).kids))
-      (sibling (next_of (way c.before.before.before.before.before.before.before.before) c.before.before.before.before.before.before.before.loop-test.true).own (next_of (way c.before.before.before.before.before.before.before.before) c.before.before.before.before.before.before.before.loop-test.true).name (next_of (way c.before.before.before.before.before.before.before.before) c.before.before.before.before.before.before.before.loop-test.true).kids) (8192 * (next_at c.before.before.before.before.before.before.before.before.before.before.before.before.before.before.before.before.before.before.args.vtape.now c.before.before.before.before.before.before.before.before.loop.q - c.before.before.before.before.before.before.before.before.loop.q)) (262144 * (next_at c.before.before.before.before.before.before.before.before.before.before.before.before.before.before.before.before.before.before.args.tape.now c.before.before.before.before.before.before.before.before.loop.p - c.before.before.before.before.before.before.before.before.loop.p + (next_at c.before.before.before.before.before.before.before.before.before.before.before.before.before.before.before.before.before.before.args.vtape.now c.before.before.before.before.before.before.before.before.loop.q - c.before.before.before.before.before.before.before.before.loop.q))) (record { at = c.before.before.before.before.before.before.before.before.loop.to + c.write-both.result.at; fresh = c.write-both.result.fresh }) (put_mid c.before.before.before.before.least.result (length c.before.before.before.before.before.before.before.before.loop.out - c.before.before.before.before.least.result) c.before.before.before.before.before.before.before.before.loop.out c.write-both.new.1.1.1.1.1.1.1.1.1.1.1.1.0)
+      (sibling (next_of (way c.before.before.before.before.before.before.before.before) c.before.before.before.before.before.before.before.loop-test.true).own (next_of (way c.before.before.before.before.before.before.before.before) c.before.before.before.before.before.before.before.loop-test.true).name (next_of (way c.before.before.before.before.before.before.before.before) c.before.before.before.before.before.before.before.loop-test.true).kids) (next_at c.before.before.before.before.before.before.before.before.before.before.before.before.before.before.before.before.before.before.args.vtape.now c.before.before.before.before.before.before.before.before.loop.q - c.before.before.before.before.before.before.before.before.loop.q) (262144 * (next_at c.before.before.before.before.before.before.before.before.before.before.before.before.before.before.before.before.before.before.args.tape.now c.before.before.before.before.before.before.before.before.loop.p - c.before.before.before.before.before.before.before.before.loop.p + (next_at c.before.before.before.before.before.before.before.before.before.before.before.before.before.before.before.before.before.before.args.vtape.now c.before.before.before.before.before.before.before.before.loop.q - c.before.before.before.before.before.before.before.before.loop.q))) (record { at = c.before.before.before.before.before.before.before.before.loop.to + c.write-both.result.at; fresh = c.write-both.result.fresh }) (put_mid c.before.before.before.before.least.result (length c.before.before.before.before.before.before.before.before.loop.out - c.before.before.before.before.least.result) c.before.before.before.before.before.before.before.before.loop.out c.write-both.new.1.1.1.1.1.1.1.1.1.1.1.1.0)
   grown c =
       let x = way c.before.before.before.before.before.before.before.before in
       let l = c.before.before.before.before.before.before.before.loop-test.true in
@@ -135,7 +134,7 @@ module _ (t : ℕ) where
   write-added-returns : write-added-lts.Need-returns (write-added-calls t) (write-added-at t) write-added.Post write-added-Inv-loop write-added-μ-loop
   write-added-returns c K w u f v g =
       let a = sym (c.before.before.before.before.before.is-above.ensures c.before.before.before.before.before.before.before.before.before.before.before.before.before.args.text.now K w g.tabled g.place_is) ∙ not-true _ c.before.before.before.before.if1.true in
-      rw (inside-front K c.before.before.before.before.before.before.before.before.before.before.before.before.before.args.n w u f v a) (c.before.before.write-contents.ensures u f v g.tape g.vtape (g.front a) g.set)
+      rw (inside-front K c.before.before.before.before.before.before.before.before.before.before.before.before.before.args.n w u f v a) (c.before.before.write-contents.ensures u f v g.tape g.vtape (g.front a) g.plain g.set)
 
   write-added-loop-holds : write-added-lts.Need-loop-init (write-added-calls t) (write-added-at t) write-added.Post write-added-Inv-loop write-added-μ-loop
   write-added-loop-holds c = (omega arith, omega arith, omega arith, omega arith, refl, λ K w u f v g a. way-none g.tape g.vtape (g.siblings a) (g.version a))
@@ -146,7 +145,7 @@ module _ (t : ℕ) where
       let s = next_of x c.loop-test.true in
       let h = c.before.before.before.before.before.before.before.before.before.before.before.requires.1.0 in
       rw (at_place s.at) (
-        record { key_list = h.key_list; path = h.path; tabled = h.held.tabled; place_is = h.held.place_is; name = s.name; kids = s.kids; node = s.at.node; bare = s.bare; tape = s.at.inner; once = s.keys },
+        record { key_list = h.key_list; path = h.path; tabled = h.held.tabled; place_is = h.held.place_is; name = s.name; kids = s.kids; node = s.at.node; tape = s.at.inner; once = s.keys },
         (front x.tape c.loop-test.true).held,
       )
 
@@ -155,7 +154,7 @@ module _ (t : ℕ) where
       let x = way c.before.before in
       let s = next_of x c.before.loop-test.true in
       let h = c.before.before.before.before.before.before.before.before.before.before.before.before.requires.1.0.held in
-      record { key_list = c.before.before.before.before.before.before.before.before.before.before.before.before.requires.1.0.key_list; path = c.before.before.before.before.before.before.before.before.before.before.before.before.requires.1.0.path; tabled = h.tabled; place_is = sym (c.own-place.ensures c.before.before.before.before.before.before.before.before.before.before.before.before.requires.1.0.key_list c.before.before.before.before.before.before.before.before.before.before.before.before.requires.1.0.path h.tabled h.place_is s.own s.name s.kids s.at); own = s.own; name = s.name; kids = s.kids; at = s.at; bare = s.bare; keys = s.keys; other = x.other; vtape = x.vtape; version = x.version }
+      record { key_list = c.before.before.before.before.before.before.before.before.before.before.before.before.requires.1.0.key_list; path = c.before.before.before.before.before.before.before.before.before.before.before.before.requires.1.0.path; tabled = h.tabled; place_is = sym (c.own-place.ensures c.before.before.before.before.before.before.before.before.before.before.before.before.requires.1.0.key_list c.before.before.before.before.before.before.before.before.before.before.before.before.requires.1.0.path h.tabled h.place_is s.own s.name s.kids s.at); own = s.own; name = s.name; kids = s.kids; at = s.at; keys = s.keys; other = x.other; vtape = x.vtape; version = x.version }
 
   write-added-least-requires : write-added-lts.Need-least-requires (write-added-calls t) (write-added-at t) write-added.Post write-added-Inv-loop write-added-μ-loop
   write-added-least-requires c κs = search rules
@@ -184,20 +183,11 @@ module _ (t : ℕ) where
       let g = front (way c.before.before.before.before.before.before.before.before.before.before).vtape (newer c.before.before.before.before.before) in
       omega (arith, c.before.before.before.before.before.before.before.before.before.before.loop.invariant.2, c.before.before.before.before.before.before.before.before.before.before.before.before.before.before.before.before.before.before.before.before.requires.1.4, g.forward, g.inside, (rw c.before.before.before.before.view-at.ensures at c.before.before.put-newest.ensures).1)
 
-  write-added-count-nodes-requires : write-added-lts.Need-count-nodes-requires (write-added-calls t) (write-added-at t) write-added.Post write-added-Inv-loop write-added-μ-loop
-  write-added-count-nodes-requires c κs =
-      let x = way c.before.before.before.before.before.before.before.before.before.before in
-      let u = newer c.before.before.before.before.before in
-      rw c.before.before.before.before.view-at.ensures (record { forest = _; tape = (other_of x u).here }, omega (arith, (front x.vtape u).inside, c.before.before.before.before.before.before.before.before.before.before.before.before.before.before.before.before.before.before.before.before.requires.1.3))
-
-  -- how many nodes the version's next element brings at most
-  brought : (c : write-added-lts.After-count-nodes (write-added-calls t) (write-added-at t) write-added.Post write-added-Inv-loop write-added-μ-loop) → c.count-nodes.result ≤ 8192 * (next_at c.before.before.before.before.before.before.before.before.before.before.before.before.before.before.before.before.before.before.before.before.before.args.vtape.now c.before.before.before.before.before.before.before.before.before.before.before.loop.q - c.before.before.before.before.before.before.before.before.before.before.before.loop.q)
-  brought c = let h = (other_of (way c.before.before.before.before.before.before.before.before.before.before.before) (newer c.before.before.before.before.before.before)).here in omega (arith, (rw c.before.before.before.before.before.view-at.ensures at c.count-nodes.ensures) _ h, tape-most h)
+  write-added-sub-fresh : write-added-lts.Need-overflow-sub-fresh (write-added-calls t) (write-added-at t) write-added.Post write-added-Inv-loop write-added-μ-loop
+  write-added-sub-fresh c = rw c.before.before.before.before.before.view-at.ensures (omega (arith, (front (way c.before.before.before.before.before.before.before.before.before.before.before).vtape (newer c.before.before.before.before.before.before)).forward))
 
   write-added-add-fresh : write-added-lts.Need-overflow-add-fresh (write-added-calls t) (write-added-at t) write-added.Post write-added-Inv-loop write-added-μ-loop
-  write-added-add-fresh c =
-      let g = front (way c.before.before.before.before.before.before.before.before.before.before.before).vtape (newer c.before.before.before.before.before.before) in
-      omega (arith, brought c, g.forward, g.inside, c.before.before.before.before.before.before.before.before.before.before.before.loop.invariant.1, c.before.before.before.before.before.before.before.before.before.before.before.loop.invariant.3, c.before.before.before.before.before.before.before.before.before.before.before.before.before.before.before.before.before.before.before.before.before.requires.1.3)
+  write-added-add-fresh c = rw c.before.before.before.before.before.view-at.ensures (omega (arith, (front (way c.before.before.before.before.before.before.before.before.before.before.before).vtape (newer c.before.before.before.before.before.before)).inside, c.before.before.before.before.before.before.before.before.before.before.before.loop.invariant.3, c.before.before.before.before.before.before.before.before.before.before.before.before.before.before.before.before.before.before.before.before.before.requires.1.3))
 
   write-added-loop-less : write-added-lts.Need-loop-smaller (write-added-calls t) (write-added-at t) write-added.Post write-added-Inv-loop write-added-μ-loop
   write-added-loop-less c =
@@ -216,9 +206,9 @@ module _ (t : ℕ) where
         c.before.before.before.before.before.before.before.before.before.before.before.loop.invariant.0,
         omega (arith, c.before.before.before.before.before.before.before.before.before.before.before.loop.invariant.1, g.forward),
         omega (arith, c.before.before.before.before.before.before.before.before.before.before.before.loop.invariant.2, g.forward, g.inside, y.1),
-        omega (arith, c.before.before.before.before.before.before.before.before.before.before.before.loop.invariant.1, c.before.before.before.before.before.before.before.before.before.before.before.loop.invariant.3, g.forward, brought c),
+        omega (arith, c.before.before.before.before.before.before.before.before.before.before.before.loop.invariant.3, g.forward, g.inside),
         ap length (lent_back c.before.before.before.before.before.before.before.before.before.before.before.loop.out c.before.before.before.before.before.before.before.before.before.before.before.loop.to c.before.before.before.before.before.before.before.least.result c.before.before.before.before.before.before.before.least.ensures (y.0 _ o.here)).bytes ∙ length_at _ _ _ ∙ c.before.before.before.before.before.before.before.before.before.before.before.loop.invariant.4,
-        λ K w u f v h a. let z = c.before.before.before.before.before.before.before.before.before.before.before.loop.invariant.5 K w u f v h a in way-new z l (order-at z l (c.before.before.before.before.before.before.before.before.before.own-place.ensures K w h.tabled h.place_is) (c.before.before.before.before.before.before.before.before.order-of.ensures K w h.tabled) ∙ c.before.before.before.before.before.before.if2.true) (rw e at c.count-nodes.ensures) (λ g k. lent_back c.before.before.before.before.before.before.before.before.before.before.before.loop.out c.before.before.before.before.before.before.before.before.before.before.before.loop.to c.before.before.before.before.before.before.before.least.result c.before.before.before.before.before.before.before.least.ensures (y.0 g k)),
+        λ K w u f v h a. let z = c.before.before.before.before.before.before.before.before.before.before.before.loop.invariant.5 K w u f v h a in way-new z l (order-at z l (c.before.before.before.before.before.before.before.before.before.own-place.ensures K w h.tabled h.place_is) (c.before.before.before.before.before.before.before.before.order-of.ensures K w h.tabled) ∙ c.before.before.before.before.before.before.if2.true) (λ g k. lent_back c.before.before.before.before.before.before.before.before.before.before.before.loop.out c.before.before.before.before.before.before.before.before.before.before.before.loop.to c.before.before.before.before.before.before.before.least.result c.before.before.before.before.before.before.before.least.ensures (y.0 g k)),
       )
 
   write-added-sub-write-old : write-added-lts.Need-overflow-sub-write-old (write-added-calls t) (write-added-at t) write-added.Post write-added-Inv-loop write-added-μ-loop
@@ -323,7 +313,7 @@ module _ (t : ℕ) where
   write-added-add-fresh-2 c =
       let y = grown c.before.before.before.before.before.before in
       let k = front (way c.before.before.before.before.before.before.before.before.before.before.before.before.before.before).vtape (matched c.before.before.before.before.before.before.before.before) in
-      omega (arith, y.few, c.before.before.before.before.before.before.before.before.before.before.before.before.before.before.loop.invariant.1, c.before.before.before.before.before.before.before.before.before.before.before.before.before.before.loop.invariant.3, k.forward, k.inside, c.before.before.before.before.before.before.before.before.before.before.before.before.before.before.before.before.before.before.before.before.before.before.before.before.requires.1.3)
+      omega (arith, y.few, c.before.before.before.before.before.before.before.before.before.before.before.before.before.before.loop.invariant.3, k.inside, c.before.before.before.before.before.before.before.before.before.before.before.before.before.before.before.before.before.before.before.before.before.before.before.before.requires.1.3)
 
   write-added-loop-less-3 : write-added-lts.Need-loop-smaller-3 (write-added-calls t) (write-added-at t) write-added.Post write-added-Inv-loop write-added-μ-loop
   write-added-loop-less-3 c =
@@ -344,7 +334,7 @@ module _ (t : ℕ) where
         omega (arith, c.before.before.before.before.before.before.before.before.before.before.before.before.before.before.loop.invariant.0, g.forward),
         omega (arith, c.before.before.before.before.before.before.before.before.before.before.before.before.before.before.loop.invariant.1, k.forward),
         room-more c.before.before.before.before.before.before.before.before.before.before.before.before.before.before.loop.to c.before.before.before.before.before.before.before.before.before.before.before.before.before.before.loop.invariant.2 y.near (omega (arith, g.forward)) g.inside (omega (arith, k.forward)) k.inside,
-        omega (arith, c.before.before.before.before.before.before.before.before.before.before.before.before.before.before.loop.invariant.1, c.before.before.before.before.before.before.before.before.before.before.before.before.before.before.loop.invariant.3, k.forward, y.few),
+        omega (arith, c.before.before.before.before.before.before.before.before.before.before.before.before.before.before.loop.invariant.3, k.forward, k.inside, y.few),
         ap length y.wrote.bytes ∙ length_at _ _ _ ∙ c.before.before.before.before.before.before.before.before.before.before.before.before.before.before.loop.invariant.4,
         λ K w u f v h a. let z = c.before.before.before.before.before.before.before.before.before.before.before.before.before.before.loop.invariant.5 K w u f v h a in
             let s = equal c.before.before.before.before.before.before.before.before z h.tabled h.place_is in
@@ -356,27 +346,23 @@ module _ (t : ℕ) where
       let x = way c.before.before in
       (c.before.before.before.before.before.before.before.before.before.before.before.before.requires.1.1, record { forest = x.other; tape = x.vtape }, c.before.before.before.before.before.before.before.before.before.before.before.before.requires.1.3, omega (arith, c.before.before.loop.invariant.2, c.before.before.before.before.before.before.before.before.before.before.before.before.requires.1.4))
 
-  write-added-count-nodes-requires-2 : write-added-lts.Need-count-nodes-requires-2 (write-added-calls t) (write-added-at t) write-added.Post write-added-Inv-loop write-added-μ-loop
-  write-added-count-nodes-requires-2 c κs = let x = way c.before.before.before.before.before in (record { forest = x.other; tape = x.vtape }, c.before.before.before.before.before.before.before.before.before.before.before.before.before.before.before.requires.1.3)
-
-  -- all that the version brings
-  added : (c : write-added-lts.After-count-nodes2 (write-added-calls t) (write-added-at t) write-added.Post write-added-Inv-loop write-added-μ-loop) → c.before.before.before.before.before.before.loop.fresh + c.count-nodes2.result ≤ 8192 * (c.before.before.before.before.before.before.before.before.before.before.before.before.before.before.before.before.args.vhi - c.before.before.before.before.before.before.before.before.before.before.before.before.before.before.before.before.args.vlo)
-  added c = let x = way c.before.before.before.before.before.before in omega (arith, c.count-nodes2.ensures x.other x.vtape, tape-most x.vtape, tape-le x.vtape, c.before.before.before.before.before.before.loop.invariant.1, c.before.before.before.before.before.before.loop.invariant.3)
+  write-added-sub-t53 : write-added-lts.Need-overflow-sub-t53 (write-added-calls t) (write-added-at t) write-added.Post write-added-Inv-loop write-added-μ-loop
+  write-added-sub-t53 c = tape-le (way c.before.before.before.before.before).vtape
 
   write-added-add-t54 : write-added-lts.Need-overflow-add-t54 (write-added-calls t) (write-added-at t) write-added.Post write-added-Inv-loop write-added-μ-loop
-  write-added-add-t54 c = omega (arith, added c, c.before.before.before.before.before.before.before.before.before.before.before.before.before.before.before.before.requires.1.3)
+  write-added-add-t54 c = omega (arith, c.before.before.before.before.before.loop.invariant.3, c.before.before.before.before.before.before.before.before.before.before.before.before.before.before.before.requires.1.3)
 
   write-added-same-length-2 : write-added-lts.Need-same-length-2 (write-added-calls t) (write-added-at t) write-added.Post write-added-Inv-loop write-added-μ-loop
   write-added-same-length-2 c =
-      let x = way c.before.before.before.before.before.before in
-      ap length (c.before.before.before.write_new.ensures.0 c.before.before.before.before.before.before.before.before.before.before.before.before.before.before.before.before.requires.1.0.key_list c.before.before.before.before.before.before.before.before.before.before.before.before.before.before.before.before.requires.1.0.path x.other x.vtape x.version).bytes ∙ length_at _ _ _ ∙ c.before.before.before.before.before.before.loop.invariant.4
+      let x = way c.before.before.before.before.before in
+      ap length (c.before.before.write_new.ensures.0 c.before.before.before.before.before.before.before.before.before.before.before.before.before.before.before.requires.1.0.key_list c.before.before.before.before.before.before.before.before.before.before.before.before.before.before.before.requires.1.0.path x.other x.vtape x.version).bytes ∙ length_at _ _ _ ∙ c.before.before.before.before.before.loop.invariant.4
 
   write-added-returns-2 : write-added-lts.Need-returns-2 (write-added-calls t) (write-added-at t) write-added.Post write-added-Inv-loop write-added-μ-loop
   write-added-returns-2 c K w u f v g =
-      let a = above-is c.before.before.before.before.before.before.before K w g.tabled g.place_is in
-      let x = c.before.before.before.before.before.before.loop.invariant.5 K w u f v g a in
-      let y = way-done x c.before.before.before.before.before.loop-test.false c.count-nodes2.ensures (c.before.before.before.write_new.ensures.0 K w x.other x.vtape x.version) in
-      rw (inside-above K c.before.before.before.before.before.before.before.before.before.before.before.before.before.before.before.before.args.n w u f v a) (record { wrote = y.0; count = y.1; few = added c; near = omega (arith, c.before.before.before.before.before.before.loop.invariant.2, c.before.before.before.write_new.ensures.1, tape-le x.tape) })
+      let a = above-is c.before.before.before.before.before.before K w g.tabled g.place_is in
+      let x = c.before.before.before.before.before.loop.invariant.5 K w u f v g a in
+      let y = way-done x c.before.before.before.before.loop-test.false (c.before.before.write_new.ensures.0 K w x.other x.vtape x.version) in
+      rw (inside-above K c.before.before.before.before.before.before.before.before.before.before.before.before.before.before.before.args.n w u f v a) (record { wrote = y.0; count = y.1; few = c.before.before.before.before.before.loop.invariant.3; near = omega (arith, c.before.before.before.before.before.loop.invariant.2, c.before.before.write_new.ensures.1, tape-le x.tape) })
 
 module _ (t : ℕ) where
   -- the element of the sibling
@@ -390,12 +376,12 @@ module _ (t : ℕ) where
       let s = spot c.before.before.before.before.before.before.before.before.before.before.before b.at in
       rw s (inner-held b (c.before.before.before.before.before.before.before.before.before.before.set-of.ensures c.before.before.before.before.before.before.before.before.before.before.before.before.before.before.before.before.before.before.before.args.n u o m k (omega (arith, c.before.before.before.before.before.before.before.before.before.before.before.before.before.before.before.before.before.before.before.requires.1.1)) b.at b.own-set b.set))
 
-  near-open : (c : write-both-lts.After-slice-known3 (write-both-calls t) (write-both-at t) write-both.Post) → c.before.before.put-open.result ≤ 0 + 199612
+  near-open : (c : write-both-lts.After-slice-known3 (write-both-calls t) (write-both-at t) write-both.Post) → c.before.before.put-open.result ≤ 0 + 35777
   near-open c =
       let h = c.before.before.before.before.before.before.before.before.before.before.before.before.before.before.before.before.before.before.before.requires.1.0.both in
-      omega (arith, (rw (c.before.before.before.before.before.before.before.before.before.view-at.ensures, spot c.before.before.before.before.before.before.before.before.before.before.before h.at, tagged_is h.at.node) at c.before.before.put-open.ensures).place, opening-short h.at.node, c.before.before.before.before.before.before.open-set.ensures.1)
+      omega (arith, (rw (c.before.before.before.before.before.before.before.before.before.view-at.ensures, spot c.before.before.before.before.before.before.before.before.before.before.before h.at, h.at.node.bytes-are) at c.before.before.put-open.ensures).place, opening-short h.at.node, c.before.before.before.before.before.before.open-set.ensures.1)
 
-  filled : (c : write-both-lts.After-write-added (write-both-calls t) (write-both-at t) write-both.Post) → c.write-added.result.at + 290000 ≤ 0 + 262144 * (next_at c.before.before.before.before.before.before.before.before.before.before.before.before.before.before.before.before.before.before.before.before.before.args.tape.now c.before.before.before.before.before.before.before.before.before.before.before.before.before.before.before.before.before.before.before.before.before.args.p - c.before.before.before.before.before.before.before.before.before.before.before.before.before.before.before.before.before.before.before.before.before.args.p + (next_at c.before.before.before.before.before.before.before.before.before.before.before.before.before.before.before.before.before.before.before.before.before.args.vtape.now c.before.before.before.before.before.before.before.before.before.before.before.before.before.before.before.before.before.before.before.before.before.args.q - c.before.before.before.before.before.before.before.before.before.before.before.before.before.before.before.before.before.before.before.before.before.args.q))
+  filled : (c : write-both-lts.After-write-added (write-both-calls t) (write-both-at t) write-both.Post) → c.write-added.result.at + 400000 ≤ 0 + 262144 * (next_at c.before.before.before.before.before.before.before.before.before.before.before.before.before.before.before.before.before.before.before.before.before.args.tape.now c.before.before.before.before.before.before.before.before.before.before.before.before.before.before.before.before.before.before.before.before.before.args.p - c.before.before.before.before.before.before.before.before.before.before.before.before.before.before.before.before.before.before.before.before.before.args.p + (next_at c.before.before.before.before.before.before.before.before.before.before.before.before.before.before.before.before.before.before.before.before.before.args.vtape.now c.before.before.before.before.before.before.before.before.before.before.before.before.before.before.before.before.before.before.before.before.before.args.q - c.before.before.before.before.before.before.before.before.before.before.before.before.before.before.before.before.before.before.before.before.before.args.q))
   filled c =
       let b = c.before.before.before.before.before.before.before.before.before.before.before.before.before.before.before.before.before.before.before.before.before.requires.1.0 in
       let h = b.both in
@@ -403,10 +389,10 @@ module _ (t : ℕ) where
       let x = ((rw (c.before.before.before.before.before.before.before.before.before.before.before.view-at.ensures, c.before.before.before.before.before.before.before.before.before.before.view-at2.ensures) at c.write-added.ensures) b.key_list (b.path ▸ b.name) (set_in c.before.before.before.before.before.before.before.before.before.before.before.before.before.before.before.before.before.before.before.before.before.args.n b.times b.own) b.kids b.other (inner c.before.before h)).near in
       room-outer 0 c.before.before.before.before.before.before.before.before.before.before.before.before.before.before.before.before.before.before.before.before.before.args.q f.0 f.1 h.at.ends (tape-le h.vinner) (near-open c.before.before) (rw (spot c.before.before.before.before.before.before.before.before.before.before.before.before.before h.at) at x)
 
-  near-close : (c : write-both-lts.After-put-close (write-both-calls t) (write-both-at t) write-both.Post) → c.put-close.result + 289000 ≤ 0 + 262144 * (next_at c.before.before.before.before.before.before.before.before.before.before.before.before.before.before.before.before.before.before.before.before.before.before.before.before.before.args.tape.now c.before.before.before.before.before.before.before.before.before.before.before.before.before.before.before.before.before.before.before.before.before.before.before.before.before.args.p - c.before.before.before.before.before.before.before.before.before.before.before.before.before.before.before.before.before.before.before.before.before.before.before.before.before.args.p + (next_at c.before.before.before.before.before.before.before.before.before.before.before.before.before.before.before.before.before.before.before.before.before.before.before.before.before.args.vtape.now c.before.before.before.before.before.before.before.before.before.before.before.before.before.before.before.before.before.before.before.before.before.before.before.before.before.args.q - c.before.before.before.before.before.before.before.before.before.before.before.before.before.before.before.before.before.before.before.before.before.before.before.before.before.args.q))
+  near-close : (c : write-both-lts.After-put-close (write-both-calls t) (write-both-at t) write-both.Post) → c.put-close.result + 300000 ≤ 0 + 262144 * (next_at c.before.before.before.before.before.before.before.before.before.before.before.before.before.before.before.before.before.before.before.before.before.before.before.before.before.args.tape.now c.before.before.before.before.before.before.before.before.before.before.before.before.before.before.before.before.before.before.before.before.before.before.before.before.before.args.p - c.before.before.before.before.before.before.before.before.before.before.before.before.before.before.before.before.before.before.before.before.before.before.before.before.before.args.p + (next_at c.before.before.before.before.before.before.before.before.before.before.before.before.before.before.before.before.before.before.before.before.before.before.before.before.before.args.vtape.now c.before.before.before.before.before.before.before.before.before.before.before.before.before.before.before.before.before.before.before.before.before.before.before.before.before.args.q - c.before.before.before.before.before.before.before.before.before.before.before.before.before.before.before.before.before.before.before.before.before.before.before.before.before.args.q))
   near-close c =
       let h = c.before.before.before.before.before.before.before.before.before.before.before.before.before.before.before.before.before.before.before.before.before.before.before.before.before.requires.1.0.both in
-      omega (arith, (rw (c.before.before.before.before.before.before.before.before.before.before.before.before.before.before.before.view-at.ensures, spot c.before.before.before.before.before.before.before.before.before.before.before.before.before.before.before.before.before h.at, tagged_is h.at.node) at c.put-close.ensures).place, closing-short h.at.node, filled c.before.before.before.before)
+      omega (arith, (rw (c.before.before.before.before.before.before.before.before.before.before.before.before.before.before.before.view-at.ensures, spot c.before.before.before.before.before.before.before.before.before.before.before.before.before.before.before.before.before h.at, h.at.node.bytes-are) at c.put-close.ensures).place, closing-short h.at.node, filled c.before.before.before.before)
 
   write-both-element-at-requires : write-both-lts.Need-element-at-requires (write-both-calls t) (write-both-at t) write-both.Post
   write-both-element-at-requires c κs = (at_front c.before.before.before.before.before.before.before.requires.1.0.own c.before.before.before.before.before.before.before.requires.1.0.both.at).held
@@ -415,10 +401,10 @@ module _ (t : ℕ) where
   write-both-set-of-requires c κs = let g = at_front c.before.before.before.before.before.before.before.before.requires.1.0.own c.before.before.before.before.before.before.before.before.requires.1.0.both.at in (g.held, g.within)
 
   write-both-view-at-requires : write-both-lts.Need-view-at-requires (write-both-calls t) (write-both-at t) write-both.Post
-  write-both-view-at-requires c κs = rw (spot c.before c.before.before.before.before.before.before.before.before.before.requires.1.0.both.at) c.before.before.before.before.before.before.before.before.before.requires.1.0.both.at.node.node.held
+  write-both-view-at-requires c κs = rw (spot c.before c.before.before.before.before.before.before.before.before.before.requires.1.0.both.at) c.before.before.before.before.before.before.before.before.before.requires.1.0.both.at.node.held
 
   write-both-view-at-requires-2 : write-both-lts.Need-view-at-requires-2 (write-both-calls t) (write-both-at t) write-both.Post
-  write-both-view-at-requires-2 c κs = c.before.before.before.before.before.before.before.before.before.before.requires.1.0.both.vnode.node.held
+  write-both-view-at-requires-2 c κs = c.before.before.before.before.before.before.before.before.before.before.requires.1.0.both.vnode.held
 
   write-both-open-set-requires : write-both-lts.Need-open-set-requires (write-both-calls t) (write-both-at t) write-both.Post
   write-both-open-set-requires c κs = let b = c.before.before.before.before.before.before.before.before.before.before.before.before.requires.1.0 in
@@ -428,7 +414,7 @@ module _ (t : ℕ) where
   write-both-put-open-requires : write-both-lts.Need-put-open-requires (write-both-calls t) (write-both-at t) write-both.Post
   write-both-put-open-requires c κs =
       let h = c.before.before.before.before.before.before.before.before.before.before.before.before.before.before.before.before.requires.1.0.both in
-      rw (c.before.before.before.before.before.before.view-at.ensures, spot c.before.before.before.before.before.before.before.before h.at) (omega arith, h.at.node.node.within, omega arith, omega (arith, c.before.before.before.before.before.before.before.before.before.before.before.before.before.before.before.before.requires.1.4, c.before.before.before.open-set.ensures.1), λ _. tagged-start h.at.node)
+      rw (c.before.before.before.before.before.before.view-at.ensures, spot c.before.before.before.before.before.before.before.before h.at) (omega arith, h.at.node.within, omega arith, omega (arith, c.before.before.before.before.before.before.before.before.before.before.before.before.before.before.before.before.requires.1.4, c.before.before.before.open-set.ensures.1))
 
   write-both-add-write-added : write-both-lts.Need-overflow-add-write-added (write-both-calls t) (write-both-at t) write-both.Post
   write-both-add-write-added c =
@@ -461,7 +447,7 @@ module _ (t : ℕ) where
   write-both-put-close-requires : write-both-lts.Need-put-close-requires (write-both-calls t) (write-both-at t) write-both.Post
   write-both-put-close-requires c κs =
       let h = c.before.before.before.before.before.before.before.before.before.before.before.before.before.before.before.before.before.before.before.before.before.before.before.before.requires.1.0.both in
-      rw (c.before.before.before.before.before.before.before.before.before.before.before.before.before.before.view-at.ensures, spot c.before.before.before.before.before.before.before.before.before.before.before.before.before.before.before.before h.at) (omega arith, h.at.node.node.within, omega arith, omega (arith, c.before.before.before.before.before.before.before.before.before.before.before.before.before.before.before.before.before.before.before.before.before.before.before.before.requires.1.4, filled c.before.before.before), λ _. tagged-start h.at.node)
+      rw (c.before.before.before.before.before.before.before.before.before.before.before.before.before.before.view-at.ensures, spot c.before.before.before.before.before.before.before.before.before.before.before.before.before.before.before.before h.at) (omega arith, h.at.node.within, omega arith, omega (arith, c.before.before.before.before.before.before.before.before.before.before.before.before.before.before.before.before.before.before.before.before.before.before.before.before.requires.1.4, filled c.before.before.before))
 
   write-both-close-set-requires : write-both-lts.Need-close-set-requires (write-both-calls t) (write-both-at t) write-both.Post
   write-both-close-set-requires c κs = ((at_front c.before.before.before.before.before.before.before.before.before.before.before.before.before.before.before.before.before.before.before.before.before.before.before.before.before.before.before.before.requires.1.0.own c.before.before.before.before.before.before.before.before.before.before.before.before.before.before.before.before.before.before.before.before.before.before.before.before.before.before.before.before.requires.1.0.both.at).held, omega (arith, c.before.before.before.before.before.before.before.before.before.before.before.before.before.before.before.before.before.before.before.before.before.before.before.before.before.before.before.before.requires.1.4, near-close c.before.before.before))
@@ -475,14 +461,14 @@ module _ (t : ℕ) where
       let e = c.before.before.before.before.before.before.before.before.before.before.before.before.before.before.before.before.before.before.before.before.before.view-at.ensures in
       both-grew c.before.before.before.before.before.before.before.before.before.before.before.before.before.before.before.before.before.before.before.before.before.before.before.before.before.before.before.before.before.before.before.args.n u o m
       (c.before.before.before.before.before.before.before.before.before.before.before.before.before.before.before.before.before.before.open-set.ensures.0 o m k (set_in c.before.before.before.before.before.before.before.before.before.before.before.before.before.before.before.before.before.before.before.before.before.before.before.before.before.before.before.before.before.before.before.args.n u o) b.at (c.before.before.before.before.before.before.before.before.before.before.before.before.before.before.before.before.before.before.before.before.before.before.set-of.ensures c.before.before.before.before.before.before.before.before.before.before.before.before.before.before.before.before.before.before.before.before.before.before.before.before.before.before.before.before.before.before.before.args.n u o m k (omega (arith, c.before.before.before.before.before.before.before.before.before.before.before.before.before.before.before.before.before.before.before.before.before.before.before.before.before.before.before.before.before.before.before.requires.1.1)) b.at b.own-set b.set))
-      (rw (e, s, tagged_is b.at.node) at c.before.before.before.before.before.before.before.before.before.before.before.before.before.before.put-open.ensures)
+      (rw (e, s, b.at.node.bytes-are) at c.before.before.before.before.before.before.before.before.before.before.before.before.before.before.put-open.ensures)
       ((rw (e, c.before.before.before.before.before.before.before.before.before.before.before.before.before.before.before.before.before.before.before.before.view-at2.ensures) at c.before.before.before.before.before.before.before.before.before.before.write-added.ensures) K (w ▸ m) (set_in c.before.before.before.before.before.before.before.before.before.before.before.before.before.before.before.before.before.before.before.before.before.before.before.before.before.before.before.before.before.before.before.args.n u o) k f (inner c.before.before.before.before.before.before.before.before.before.before.before.before b))
-      (rw (e, s, tagged_is b.at.node) at c.before.before.before.before.before.before.put-close.ensures)
+      (rw (e, s, b.at.node.bytes-are) at c.before.before.before.before.before.before.put-close.ensures)
       (c.before.before.close-set.ensures.0 c.before.before.before.before.before.before.before.before.before.before.before.before.before.before.before.before.before.before.before.before.before.before.before.before.before.before.before.before.before.before.before.args.src.now o m k b.at)
       (omega arith) (omega (arith, c.before.before.close-set.ensures.1, near-close c.before.before.before.before.before.before))
 
 pub +write-added-write-both-spec : {M : Type 1} → statement M
 +write-added-write-both-spec =
     close μ-write-added μ-write-both
-    (λ t. write-added-lts.spec (write-added-calls t) (write-added-at t) write-added.Post write-added-Inv-loop write-added-μ-loop (write-added-is-above-requires t) (write-added-write-contents-requires t) (write-added-same-length t) (write-added-returns t) (write-added-loop-holds t) (write-added-own-place-requires t) (write-added-order-of-requires t) (write-added-least-requires t) (write-added-view-at-requires t) (write-added-sub-put-newest t) (write-added-part-put-newest-start t) (write-added-part-put-newest-end t) (write-added-put-newest-requires t) (write-added-add-to t) (write-added-count-nodes-requires t) (write-added-add-fresh t) (write-added-loop-less t) (write-added-loop-again t) (write-added-sub-write-old t) (write-added-part-write-old-start t) (write-added-part-write-old-end t) (write-added-write-old-requires t) (write-added-add-to-2 t) (write-added-view-at-requires-2 t) (write-added-loop-less-2 t) (write-added-loop-again-2 t) (write-added-sub-write-both t) (write-added-part-write-both-start t) (write-added-part-write-both-end t) (write-added-write-both-requires t) (write-added-view-at-requires-3 t) (write-added-view-at-requires-4 t) (write-added-add-to-3 t) (write-added-add-fresh-2 t) (write-added-loop-less-3 t) (write-added-loop-again-3 t) (write-added-write-new-requires t) (write-added-count-nodes-requires-2 t) (write-added-add-t54 t) (write-added-same-length-2 t) (write-added-returns-2 t))
+    (λ t. write-added-lts.spec (write-added-calls t) (write-added-at t) write-added.Post write-added-Inv-loop write-added-μ-loop (write-added-is-above-requires t) (write-added-write-contents-requires t) (write-added-same-length t) (write-added-returns t) (write-added-loop-holds t) (write-added-own-place-requires t) (write-added-order-of-requires t) (write-added-least-requires t) (write-added-view-at-requires t) (write-added-sub-put-newest t) (write-added-part-put-newest-start t) (write-added-part-put-newest-end t) (write-added-put-newest-requires t) (write-added-add-to t) (write-added-sub-fresh t) (write-added-add-fresh t) (write-added-loop-less t) (write-added-loop-again t) (write-added-sub-write-old t) (write-added-part-write-old-start t) (write-added-part-write-old-end t) (write-added-write-old-requires t) (write-added-add-to-2 t) (write-added-view-at-requires-2 t) (write-added-loop-less-2 t) (write-added-loop-again-2 t) (write-added-sub-write-both t) (write-added-part-write-both-start t) (write-added-part-write-both-end t) (write-added-write-both-requires t) (write-added-view-at-requires-3 t) (write-added-view-at-requires-4 t) (write-added-add-to-3 t) (write-added-add-fresh-2 t) (write-added-loop-less-3 t) (write-added-loop-again-3 t) (write-added-write-new-requires t) (write-added-sub-t53 t) (write-added-add-t54 t) (write-added-same-length-2 t) (write-added-returns-2 t))
     (λ t. write-both-lts.spec (write-both-calls t) (write-both-at t) write-both.Post (write-both-element-at-requires t) (write-both-set-of-requires t) (write-both-view-at-requires t) (write-both-view-at-requires-2 t) (write-both-open-set-requires t) (write-both-put-open-requires t) (write-both-add-write-added t) (write-both-add-write-added-2 t) (write-both-write-added-requires t) (write-both-put-close-requires t) (write-both-close-set-requires t) (write-both-same-length t) (write-both-returns t))

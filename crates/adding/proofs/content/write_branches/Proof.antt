@@ -6,13 +6,13 @@ use lib.ListN.{length}
 use Rattle.xml.specs.Forest.{Forest, nodes}
 use Rattle.xml.specs.OverLaws.{length_at}
 use Rattle.xml.specs.Tape.{Tape, head_at, start_in, end_in}
-use Rattle.xml.specs.TapeLaws.{Front, bytes_at, front, length-write, tape-le, tape-most}
+use Rattle.xml.specs.TapeLaws.{Front, bytes_at, front, length-write, tape-le}
 use Rattle.timestamp.specs.Set.{adding}
 use Rattle.timestamp.specs.Listed.{text_of}
 use Rattle.versions.specs.Walk.{times_in, add_branch}
 use Rattle.versions.specs.TimedLaws.{legal-says, says-more, says-set}
 use Rattle.versions.specs.AddParts.{Says, BranchesIn}
-use Rattle.versions.specs.AddFront.{SomeBranches, branches-valid, branches-set, branches-rest, Passing, passing-none, passing-more, passing-same, passing-done, valid-inside, valid-first}
+use Rattle.versions.specs.AddFront.{SomeBranches, branches-valid, branches-set, branches-rest, Passing, passing-none, passing-more, passing-same, passing-done, plain-count, valid-inside, valid-first}
 use Rattle.adding.proofs.content.write_branches.Statement.{statement}
 use Rattle.adding.proofs.content.write_branches.Tie as tie
 use Rattle.adding.proofs.content.write_branches.Reads as reads
@@ -24,7 +24,7 @@ use Rattle.xml.proofs.tape.view_at.Reads as view-at-reads
 use Rattle.xml.proofs.writer.write_at.Reads as write-at-reads
 
 abbrev invariant-loop : tie.invariant-loop
-invariant-loop src tape lo hi vsrc vtape vlo vhi n out₀ at p₀ to₀ out p to = (lo ≤ p) × SomeBranches n src tape p hi × (to ≤ at + 196640 * (p - lo)) × (length out ≡ length out₀) × ((f v : Forest) → Tape src tape lo hi f → Tape vsrc vtape vlo vhi v → BranchesIn n f → Passing src tape p hi n v (add_branch n v f) f out₀ at to out)
+invariant-loop src tape lo hi vsrc vtape vlo vhi n out₀ at p₀ to₀ out p to = (lo ≤ p) × SomeBranches n src tape p hi × (to ≤ at + 163840 * (p - lo)) × (length out ≡ length out₀) × ((f v : Forest) → Tape src tape lo hi f → Tape vsrc vtape vlo vhi v → BranchesIn n f → Passing src tape p hi n v (add_branch n v f) f out₀ at to out)
 
 abbrev decreases-loop : tie.decreases-loop
 decreases-loop src tape lo hi vsrc vtape vlo vhi n out₀ at p₀ to₀ out p to = hi - p
@@ -65,7 +65,7 @@ same_length c = let e = c.before.before.before.before.before.before.before.befor
     ap length ((rw e at c.before.before.write-at.ensures) y.forest y.tape).bytes ∙ length_at _ _ _ ∙ ap length ((rw e at c.before.before.before.before.before.before.put-more.ensures.0) w.set z.forest w.is z.tape).bytes ∙ length_at _ _ _ ∙ c.before.before.before.before.before.before.before.before.before.before.before.before.loop.invariant.3
 
 returns : tie.Need-returns invariant-loop decreases-loop
-returns c f v h g b = let e = c.before.before.before.before.before.before.before.before.before.before.view-at.ensures in
+returns c f v h g b u = let e = c.before.before.before.before.before.before.before.before.before.before.view-at.ensures in
     let t = turn c.before.before.before.before.before.before.before.before.before.before.before in
     let x = c.before.before.before.before.before.before.before.before.before.before.before.before.loop.invariant.4 f v h g b in
     let s = says c.before.before.before.before.before.before.before.before.before.before.before in
@@ -98,16 +98,16 @@ loop-again c = let e = c.before.before.before.before.before.before.view-at.ensur
 put-newest-requires : tie.Need-put-newest-requires invariant-loop decreases-loop
 put-newest-requires c κs = (c.before.before.before.before.before.before.before.before.requires.2, c.before.before.before.before.before.before.before.before.requires.1, c.before.before.before.before.before.before.before.before.requires.4, omega (arith, c.before.before.loop.invariant.2, c.before.before.loop.invariant.0, tape-le c.before.before.loop.invariant.1.tape, c.before.before.before.before.before.before.before.before.requires.3, c.before.before.before.before.before.before.before.before.requires.5))
 
-count-nodes-requires : tie.Need-count-nodes-requires invariant-loop decreases-loop
-count-nodes-requires c κs = (c.before.before.before.before.before.before.before.before.before.before.before.requires.1, c.before.before.before.before.before.before.before.before.before.before.before.requires.4)
+sub-t30 : tie.Need-overflow-sub-t30 invariant-loop decreases-loop
+sub-t30 c = tape-le c.before.before.before.before.before.before.before.before.before.before.before.requires.1.tape
 
 same-length-2 : tie.Need-same-length-2 invariant-loop decreases-loop
-same-length-2 c = ap length (c.before.before.before.put-newest.ensures.0 c.before.before.before.before.before.before.before.before.before.before.before.before.requires.1.forest c.before.before.before.before.before.before.before.before.before.before.before.before.requires.1.tape).bytes ∙ length_at _ _ _ ∙ c.before.before.before.before.before.before.loop.invariant.3
+same-length-2 c = ap length (c.before.before.put-newest.ensures.0 c.before.before.before.before.before.before.before.before.before.before.before.requires.1.forest c.before.before.before.before.before.before.before.before.before.before.before.requires.1.tape).bytes ∙ length_at _ _ _ ∙ c.before.before.before.before.before.loop.invariant.3
 
 returns-2 : tie.Need-returns-2 invariant-loop decreases-loop
-returns-2 c f v h g b = let x = c.before.before.before.before.before.before.loop.invariant.4 f v h g b in
-    let w = passing-done x c.before.before.before.before.before.loop-test.false (c.before.before.before.put-newest.ensures.0 v g) in
-    record { wrote = w.0; count = w.1 ∙ ap (λ z. nodes f + z) (sym (c.count-nodes.ensures v g)); few = omega (arith, c.count-nodes.ensures v g, tape-most g); near = omega (arith, c.before.before.before.before.before.before.loop.invariant.2, c.before.before.before.before.before.before.loop.invariant.0, tape-le c.before.before.before.before.before.before.loop.invariant.1.tape, c.before.before.before.put-newest.ensures.1) }
+returns-2 c f v h g b u = let x = c.before.before.before.before.before.loop.invariant.4 f v h g b in
+    let w = passing-done x c.before.before.before.before.loop-test.false (c.before.before.put-newest.ensures.0 v g) in
+    record { wrote = w.0; count = w.1 ∙ ap (λ z. nodes f + z) (plain-count g u); few = omega arith; near = omega (arith, c.before.before.before.before.before.loop.invariant.2, c.before.before.before.before.before.loop.invariant.0, tape-le c.before.before.before.before.before.loop.invariant.1.tape, c.before.before.put-newest.ensures.1) }
 
 pub write-branches-spec : {M : Type 1} → statement M
 write-branches-spec =
@@ -128,6 +128,6 @@ write-branches-spec =
     loop-less
     loop-again
     put-newest-requires
-    count-nodes-requires
+    sub-t30
     same-length-2
     returns-2)

@@ -28,7 +28,7 @@ same_length : tie.Need-same-length
 same_length c = search rules
 
 returns : tie.Need-returns
-returns c t f v h g b s = let x = content-timed c.before.before.before.before.before.before.before.before.before.before.before.args.n t v h (branched c.before.before.before.before).0 (branched c.before.before.before.before).1 b in rw x.0 (c.before.before.write-branches.ensures f v h g x.1)
+returns c t f v h g b u s = let x = content-timed c.before.before.before.before.before.before.before.before.before.before.before.args.n t v h (branched c.before.before.before.before).0 (branched c.before.before.before.before).1 b in rw x.0 (c.before.before.write-branches.ensures f v h g x.1 u)
 
 write-bare-requires : tie.Need-write-bare-requires
 write-bare-requires c κs = (front-valid c.before.before.before.before.before.before.before.before.requires.0, c.before.before.before.before.before.before.before.before.requires.1, c.before.before.before.before.before.before.before.before.requires.2, c.before.before.before.before.before.before.before.before.requires.3, c.before.before.before.before.before.before.before.before.requires.4, c.before.before.before.before.before.before.before.before.requires.5, c.before.before.before.before.before.before.before.before.requires.6, c.before.before.before.before.before.before.before.before.requires.7, c.before.before.before.before.before.before.before.before.requires.8)
@@ -37,8 +37,8 @@ same-length-2 : tie.Need-same-length-2
 same-length-2 c = search rules
 
 returns-2 : tie.Need-returns-2
-returns-2 c t f v h g b s =
-    rw (content-bare c.before.before.before.before.before.before.before.before.before.before.before.args.n t v h (λ l k. clash (sym (and_both _ _ (lt-ltb c.before.before.before.before.before.before.before.before.before.before.before.args.lo c.before.before.before.before.before.before.before.before.before.before.before.args.hi l) (eq-eqb _ 2 k)) ∙ sym c.before.before.before.before.before.is-branched.ensures ∙ c.before.before.before.before.if1.false))) (c.before.before.write-bare.ensures t f v h g s)
+returns-2 c t f v h g b u s =
+    rw (content-bare c.before.before.before.before.before.before.before.before.before.before.before.args.n t v h (λ l k. clash (sym (and_both _ _ (lt-ltb c.before.before.before.before.before.before.before.before.before.before.before.args.lo c.before.before.before.before.before.before.before.before.before.before.before.args.hi l) (eq-eqb _ 2 k)) ∙ sym c.before.before.before.before.before.is-branched.ensures ∙ c.before.before.before.before.if1.false))) (c.before.before.write-bare.ensures t f v h g u s)
 
 pub write-contents-spec : {M : Type 1} → statement M
 write-contents-spec =

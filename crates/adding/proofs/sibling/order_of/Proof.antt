@@ -21,8 +21,8 @@ compare-labels-at-requires c κs =
       key_list = g.key_list;
       path = g.path;
       tabled = g.tabled;
-      first = record { name = g.name; kids = g.kids; node = g.at.node; tape = g.at.inner; bare = g.bare; once = g.keys };
-      second = record { name = s.name; kids = s.kids; node = s.node; tape = s.inner; bare = s.bare; once = s.keys };
+      first = record { name = g.name; kids = g.kids; node = g.at.node; tape = g.at.inner; once = g.keys };
+      second = record { name = s.name; kids = s.kids; node = s.node; tape = s.inner; once = s.keys };
       place_is = g.place_is;
     })
 

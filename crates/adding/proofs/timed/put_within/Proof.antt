@@ -1,13 +1,11 @@
 -- `adding::timed::put_within` meets its contract: the tags, and the nodes between them. Assumes nothing.
 use Prim.Native.Nat.{◌+◌, ◌≤◌}
 use native.Mathlib.Omega.{arith}
-use mathlib.Core.Path.{sym}
 use borrow.Author.Rules.{rules}
 use lib.ListN.{length-append}
 use lib.Seq.{slice, length-slice}
 use Rattle.xml.specs.Bytes.{bytes}
 use Rattle.xml.specs.TapeLaws.{opening, length-write}
-use Rattle.xml.specs.Truth.{clash}
 use Rattle.versions.specs.TimedLaws.{wrote-timed}
 use Rattle.adding.proofs.timed.put_within.Statement.{statement}
 use Rattle.adding.proofs.timed.put_within.Tie as tie
@@ -23,7 +21,7 @@ unfolding opening bytes
 opens c = omega (arith, simp length-append at c.put-open.ensures.place, length-slice c.before.before.before.before.before.args.a c.before.before.before.before.before.args.e c.before.before.before.before.before.args.src.now c.before.before.before.before.before.requires.1, c.before.before.before.before.before.requires.2)
 
 put-open-requires : tie.Need-put-open-requires
-put-open-requires c κs = (c.before.before.before.before.requires.0, c.before.before.before.before.requires.1, omega (arith, c.before.before.before.before.requires.2), omega (arith, c.before.before.before.before.requires.5), λ e. clash (sym e))
+put-open-requires c κs = (c.before.before.before.before.requires.0, c.before.before.before.before.requires.1, omega (arith, c.before.before.before.before.requires.2), omega (arith, c.before.before.before.before.requires.5))
 
 write-at-requires : tie.Need-write-at-requires
 write-at-requires c κs = (c.before.before.before.before.before.before.before.before.requires.3, c.before.before.before.before.before.before.before.before.requires.4, omega (arith, opens c.before.before.before, c.before.before.before.before.before.before.before.before.requires.5))

@@ -18,7 +18,7 @@ enum-known-count : tie.Need-enum-known-count
 enum-known-count c = search rules
 
 accept-requires : tie.Need-accept-requires
-accept-requires c κs = (c.before.before.before.before.before.before.before.before.before.before.before.before.before.before.before.before.requires.0, read_done _ _ (white-tells _ c.before.before.before.before.before.before.before.before.before.before.is_white.ensures c.before.before.before.before.before.before.before.before.before.if1.false) c.before.before.before.before.before.before.before.before.before.before.before.before.before.before.before.before.requires.1 c.before.before.before.count.given.1 c.before.before.before.before.before.before.before.read.ensures, c.before.before.before.before.before.before.before.before.before.before.before.before.before.before.before.before.requires.3)
+accept-requires c κs = (c.before.before.before.before.before.before.before.before.before.before.before.before.before.before.before.before.requires.0, read_done _ _ _ (white-tells _ c.before.before.before.before.before.before.before.before.before.before.is_white.ensures c.before.before.before.before.before.before.before.before.before.if1.false) c.before.before.before.before.before.before.before.before.before.before.before.before.before.before.before.before.requires.1 c.before.before.before.count.given.1 c.before.before.before.before.before.before.before.read.ensures, c.before.before.before.before.before.before.before.before.before.before.before.before.before.before.before.before.requires.3)
 
 enum-known-p : tie.Need-enum-known-p
 enum-known-p c = search rules
@@ -39,13 +39,13 @@ same-length-3 : tie.Need-same-length-3
 same-length-3 c = search rules
 
 returns-3 : tie.Need-returns-3
-returns-3 c = sent-5 (read-wrong _ _ (white-tells _ c.before.before.before.before.before.before.before.before.is_white.ensures c.before.before.before.before.before.before.before.if1.false) c.before.p.given.1 c.before.before.before.before.before.read.ensures)
+returns-3 c = sent-5 (read-wrong _ _ _ (white-tells _ c.before.before.before.before.before.before.before.before.is_white.ensures c.before.before.before.before.before.before.before.if1.false) c.before.p.given.1 c.before.before.before.before.before.read.ensures)
 
 same-length-4 : tie.Need-same-length-4
 same-length-4 c = search rules
 
 returns-4 : tie.Need-returns-4
-returns-4 c = sent-5 (read-full _ _ (white-tells _ c.before.before.before.before.before.before.before.is_white.ensures c.before.before.before.before.before.before.if1.false) c.enum_told.given.1 c.before.before.before.before.read.ensures (omega (arith, c.before.before.before.before.before.before.before.before.before.before.before.before.before.requires.1, c.before.before.before.before.before.before.before.before.before.before.before.before.before.requires.2, c.before.before.before.before.read.auto))).1
+returns-4 c = sent-5 (read-full _ _ _ (white-tells _ c.before.before.before.before.before.before.before.is_white.ensures c.before.before.before.before.before.before.if1.false) c.enum_told.given.1 c.before.before.before.before.read.ensures (omega (arith, c.before.before.before.before.before.before.before.before.before.before.before.before.before.requires.1, c.before.before.before.before.before.before.before.before.before.before.before.before.before.requires.2, c.before.before.before.before.read.auto))).1
 
 pub receive-spec : {M : Type 1} → statement M
 receive-spec =

@@ -11,7 +11,7 @@ use Rattle.keys.specs.KeyList.{key_names_at}
 use Rattle.keys.specs.Version.{called, value_in}
 use Rattle.keys.specs.Placed.{OfPlace}
 use Rattle.keys.specs.Named.{few-keys}
-use Rattle.keys.specs.LabelLaws.{key-room, key-within, key-named, key-name-is, key_bytes, value-node}
+use Rattle.keys.specs.LabelLaws.{key-room, key-within, key-name-is, key_bytes, value-node}
 use Rattle.keys.specs.SameStep.{From, keys-differ, keys_on, keys-done}
 use Rattle.keys.proofs.address.same_keys.Statement.{statement}
 use Rattle.keys.proofs.address.same_keys.Tie as tie
@@ -78,7 +78,7 @@ key-name-requires c κs = omega (arith, room c, c.before.before.before.before.be
 find-key-requires : tie.Need-find-key-requires invariant-loop decreases-loop
 find-key-requires c κs =
     let h = c.before.before.before.before.before.before.before.before.before.requires.keyed in
-    rw c.key-name.ensures (omega arith, key-within h.tabled h.path c.before.before.before.before.before.before.before.before.before.args.own h.place_is c.before.before.loop.j (own_key c.before), key-named h.tabled h.path c.before.before.before.before.before.before.before.before.before.args.own h.place_is c.before.before.loop.j (own_key c.before), record { forest = h.kids; tape = h.tape })
+    rw c.key-name.ensures (omega arith, key-within h.tabled h.path c.before.before.before.before.before.before.before.before.before.args.own h.place_is c.before.before.loop.j (own_key c.before), record { forest = h.kids; tape = h.tape })
 
 add-view-at : tie.Need-overflow-add-view-at invariant-loop decreases-loop
 add-view-at c =

@@ -8,7 +8,6 @@ use Rattle.keys.specs.KeyList.{Path, key_names_at}
 use Rattle.keys.specs.Version.{◌▸◌}
 use Rattle.keys.specs.Table.{place_of}
 use Rattle.keys.specs.AddressParts.{Inside}
-use Rattle.keys.specs.TagBytes.{bare-bytes}
 use Rattle.keys.specs.SameStep.{named_other, named-same, named-on}
 use borrow.Author.Rules.{rules}
 use Rattle.keys.proofs.address.same_step.Statement.{statement}
@@ -31,7 +30,7 @@ same-bytes-requires c κs =
     let h = c.before.before.before.before.before.before.before.requires.0 in
     let a = c.before.before.before.before.before.before.before.args in
     let s = a.s.now in
-    rw c.before.view-at.ensures (record { le₁ = omega arith; in₁ = h.step_is.name-inside; le₂ = omega arith; in₂ = h.node.node.within })
+    rw c.before.view-at.ensures (record { le₁ = omega arith; in₁ = h.step_is.name-inside; le₂ = omega arith; in₂ = h.node.within })
 
 returns : tie.Need-returns
 returns c =
@@ -39,7 +38,7 @@ returns c =
     let h = c.before.before.before.before.before.before.before.before.before.requires.0 in
     let a = c.before.before.before.before.before.before.before.before.before.args in
     let s = a.s.now in
-    named_other K s l q x m k (sym (rw (c.before.before.before.view-at.ensures, bare-bytes h.node h.bare d) at c.before.same_bytes.ensures) ∙ not-true _ c.if1.true)
+    named_other K s l q x m k (sym (rw (c.before.before.before.view-at.ensures, d.bytes-are) at c.before.same_bytes.ensures) ∙ not-true _ c.if1.true)
 
 mul-own : tie.Need-overflow-mul-own
 mul-own c = search rules
@@ -61,7 +60,7 @@ same-keys-requires c κs =
     let h = c.before.before.before.before.before.before.before.before.before.before.before.requires.0 in
     let a = c.before.before.before.before.before.before.before.before.before.before.before.args in
     let s = a.s.now in
-    let e = named-same h.key_list s h.step h.path h.step_is h.called-as h.kids (sym (rw (c.before.before.before.before.before.view-at.ensures, bare-bytes h.node h.bare h.node) at c.before.before.before.same_bytes.ensures) ∙ not-false _ c.before.before.if1.false) in
+    let e = named-same h.key_list s h.step h.path h.step_is h.called-as h.kids (sym (rw (c.before.before.before.before.before.view-at.ensures, h.node.bytes-are) at c.before.before.before.same_bytes.ensures) ∙ not-false _ c.before.before.if1.false) in
     rw c.before.before.before.before.before.view-at.ensures (record { keyed = record { key_list = h.key_list; path = h.path ▸ h.called-as; tabled = h.tabled; place_is = ap (place_of h.key_list) (sym e) ∙ sym h.step_is.place_is; kids = h.kids; tape = h.tape; once = h.once }; inside = subst (λ (z : Path). Inside s (length (key_names_at h.key_list z)) (get_or a.t6 a.i [])) e h.step_is.values-inside })
 
 returns-2 : tie.Need-returns-2
@@ -70,7 +69,7 @@ returns-2 c =
     let h = c.before.before.before.before.before.before.before.before.before.before.before.before.requires.0 in
     let a = c.before.before.before.before.before.before.before.before.before.before.before.before.args in
     let s = a.s.now in
-    let e = sym (rw (c.before.before.before.before.before.before.view-at.ensures, bare-bytes h.node h.bare d) at c.before.before.before.before.same_bytes.ensures) ∙ not-false _ c.before.before.before.if1.false in
+    let e = sym (rw (c.before.before.before.before.before.before.view-at.ensures, d.bytes-are) at c.before.before.before.before.same_bytes.ensures) ∙ not-false _ c.before.before.before.if1.false in
     named-on K s l q x m k e ((rw c.before.before.before.before.before.before.view-at.ensures at c.same_keys.ensures) K (q ▸ m) t (ap (place_of K) (sym (named-same K s l q x m k e)) ∙ sym x.place_is) k y)
 
 pub same-step-spec : {M : Type 1} → statement M

@@ -5,14 +5,13 @@ use mathlib.Core.Bool.{true, false}
 use lib.ListN.{length, length-set}
 use borrow.Author.Tests.{not-true, not-false}
 use Rattle.xml.specs.Bytes.{Bytes}
-use Rattle.xml.specs.Tape.{next_at, Tagged}
+use Rattle.xml.specs.Tape.{next_at, Node}
 use Rattle.xml.specs.TapeLaws.{tape-le}
 use Rattle.keys.specs.KeyList.{above}
 use Rattle.keys.specs.Version.{◌▸◌}
 use Rattle.keys.specs.Table.{place_of}
 use Rattle.keys.specs.Placed.{OfPlace}
 use Rattle.keys.specs.Entries.{Sorted}
-use Rattle.keys.specs.TagBytes.{place-tagged}
 use Rattle.keys.specs.Building.{Progress, turn, turn-fit, progress-twice, progress-more, progress-done, fit-checked, fit-few-tags, fit-twice, progress_start}
 use Rattle.keys.specs.BuildingLaws.{fit-kids, element-twice, element-arranged, element-end, element-size, fit-linked, fit-few, content-copied}
 use Prim.Native.Nat.{ℕ, ◌+◌, ◌*◌, ◌-◌, ◌<◌, ◌≤◌}
@@ -99,7 +98,7 @@ module _ (t : ℕ) where
   arrange-content-returns c = content-copied c.before.before.before.before.before.before.before.before.before.before.before.requires.1.0 c.before.before.before.before.before.before.before.before.before.before.before.args.out.now (low c.before.before.before.before) c.before.before.copy.ensures (few c.before.before.before.before) c.before.before.before.before.before.before.before.before.before.before.before.requires.1.1
 
   arrange-content-order-in-requires : arrange-content-lts.Need-order-in-requires (arrange-content-calls t) (arrange-content-at t) arrange-content.Post arrange-content-Inv-loop arrange-content-μ-loop
-  arrange-content-order-in-requires c κs = (fit-checked c.before.before.before.before.before.before.before.before.requires.1.0 (high c.before), fit-few-tags c.before.before.before.before.before.before.before.before.requires.1.0, refl, c.before.before.before.before.before.before.before.before.requires.1.2)
+  arrange-content-order-in-requires c κs = (fit-checked c.before.before.before.before.before.before.before.before.requires.1.0, fit-few-tags c.before.before.before.before.before.before.before.before.requires.1.0, refl, c.before.before.before.before.before.before.before.before.requires.1.2)
 
   arrange-content-returns-2 : arrange-content-lts.Need-returns-2 (arrange-content-calls t) (arrange-content-at t) arrange-content.Post arrange-content-Inv-loop arrange-content-μ-loop
   arrange-content-returns-2 c = fit-twice c.before.before.before.before.before.before.before.before.before.before.requires.1.0 c.before.before.before.before.before.before.before.before.before.before.args.out.now c.before.order-in.new.1.1.1.1.1.1.1.1.0 c.before.order-in.result (high c.before.before.before) (listed c.before) c.if2.true
@@ -114,7 +113,7 @@ module _ (t : ℕ) where
   arrange-content-array-read-p c = omega (arith, inside c)
 
   arrange-content-cast-p : arrange-content-lts.Need-overflow-cast-p (arrange-content-calls t) (arrange-content-at t) arrange-content.Post arrange-content-Inv-loop arrange-content-μ-loop
-  arrange-content-cast-p c = omega (arith, (turn c.before.loop.invariant c.loop-test.true).entry.node.node.held)
+  arrange-content-cast-p c = omega (arith, (turn c.before.loop.invariant c.loop-test.true).entry.node.held)
 
   arrange-content-arrange-element-requires : arrange-content-lts.Need-arrange-element-requires (arrange-content-calls t) (arrange-content-at t) arrange-content.Post arrange-content-Inv-loop arrange-content-μ-loop
   arrange-content-arrange-element-requires c κs =
@@ -147,8 +146,8 @@ module _ (t : ℕ) where
 
 module _ (t : ℕ) where
   own : (c : arrange-element-lts.After-child (arrange-element-calls t) (arrange-element-at t) arrange-element.Post) → OfPlace c.before.before.before.before.before.before.before.args.text.now c.before.before.before.before.before.before.before.args.table.now c.before.before.before.before.before.before.before.args.n c.before.before.before.before.before.before.before.args.place
-      (λ K q. (b : Bytes) → Tagged c.before.before.before.before.before.before.before.args.src.now c.before.before.before.before.before.before.before.args.tape.now c.before.before.before.before.before.before.before.args.p b → place_of K (q ▸ b) ≡ c.child.result)
-  own c K q u e b a = sym ((rw c.before.view-at.ensures at (c.child.ensures K q u e)) ∙ place-tagged u q a)
+      (λ K q. (b : Bytes) → Node c.before.before.before.before.before.before.before.args.src.now c.before.before.before.before.before.before.before.args.tape.now c.before.before.before.before.before.before.before.args.p 1 b → place_of K (q ▸ b) ≡ c.child.result)
+  own c K q u e b a = sym (rw (c.before.view-at.ensures, a.bytes-are) at (c.child.ensures K q u e))
 
   own-place : (c : arrange-element-lts.After-child (arrange-element-calls t) (arrange-element-at t) arrange-element.Post) → place_of c.before.before.before.before.before.before.before.requires.1.0.key_list (c.before.before.before.before.before.before.before.requires.1.0.path ▸ c.before.before.before.before.before.before.before.requires.1.0.name) ≡ c.child.result
   own-place c = own c c.before.before.before.before.before.before.before.requires.1.0.key_list c.before.before.before.before.before.before.before.requires.1.0.path c.before.before.before.before.before.before.before.requires.1.0.tabled c.before.before.before.before.before.before.before.requires.1.0.place_is c.before.before.before.before.before.before.before.requires.1.0.name c.before.before.before.before.before.before.before.requires.1.0.node
@@ -160,20 +159,20 @@ module _ (t : ℕ) where
   ends c = element-end c.before.before.before.before.before.before.before.before.before.before.before.before.before.requires.1.0 (own-place c.before.before.before.before.before.before) ((rw c.before.before.before.before.before.before.before.view-at.ensures at c.before.before.before.arrange-content.ensures).built c.if1.false)
 
   arrange-element-view-at-requires : arrange-element-lts.Need-view-at-requires (arrange-element-calls t) (arrange-element-at t) arrange-element.Post
-  arrange-element-view-at-requires c κs = c.before.before.before.before.before.requires.1.0.node.node.held
+  arrange-element-view-at-requires c κs = c.before.before.before.before.before.requires.1.0.node.held
 
   arrange-element-child-requires : arrange-element-lts.Need-child-requires (arrange-element-calls t) (arrange-element-at t) arrange-element.Post
   arrange-element-child-requires c κs = rw c.view-at.ensures
-      (record { key_list = c.before.before.before.before.before.before.requires.1.0.key_list; path = c.before.before.before.before.before.before.requires.1.0.path; table = c.before.before.before.before.before.before.requires.1.0.tabled; place_is = c.before.before.before.before.before.before.requires.1.0.place_is }, omega arith, c.before.before.before.before.before.before.requires.1.0.node.node.within)
+      (record { key_list = c.before.before.before.before.before.before.requires.1.0.key_list; path = c.before.before.before.before.before.before.requires.1.0.path; table = c.before.before.before.before.before.before.requires.1.0.tabled; place_is = c.before.before.before.before.before.before.requires.1.0.place_is }, omega arith, c.before.before.before.before.before.before.requires.1.0.node.within)
 
   arrange-element-mul-out : arrange-element-lts.Need-overflow-mul-out (arrange-element-calls t) (arrange-element-at t) arrange-element.Post
-  arrange-element-mul-out c = omega (arith, c.before.before.before.before.before.before.before.requires.1.0.node.node.held)
+  arrange-element-mul-out c = omega (arith, c.before.before.before.before.before.before.before.requires.1.0.node.held)
 
   arrange-element-mul-out-2 : arrange-element-lts.Need-overflow-mul-out-2 (arrange-element-calls t) (arrange-element-at t) arrange-element.Post
-  arrange-element-mul-out-2 c = omega (arith, c.before.before.before.before.before.before.before.requires.1.0.node.node.held)
+  arrange-element-mul-out-2 c = omega (arith, c.before.before.before.before.before.before.before.requires.1.0.node.held)
 
   arrange-element-shared-slice-read-out : arrange-element-lts.Need-shared-slice-read-out (arrange-element-calls t) (arrange-element-at t) arrange-element.Post
-  arrange-element-shared-slice-read-out c = omega (arith, c.before.before.before.before.before.before.before.before.requires.1.0.node.node.held)
+  arrange-element-shared-slice-read-out c = omega (arith, c.before.before.before.before.before.before.before.before.requires.1.0.node.held)
 
   arrange-element-mul-out-3 : arrange-element-lts.Need-overflow-mul-out-3 (arrange-element-calls t) (arrange-element-at t) arrange-element.Post
   arrange-element-mul-out-3 c = omega (arith, c.before.before.before.before.before.before.before.before.requires.1.0.fits)
@@ -185,7 +184,7 @@ module _ (t : ℕ) where
   arrange-element-slice-write-out c = omega (arith, c.before.before.before.before.before.before.before.before.requires.1.0.fits, c.before.before.before.before.before.before.before.before.requires.1.1)
 
   arrange-element-add-arrange-content : arrange-element-lts.Need-overflow-add-arrange-content (arrange-element-calls t) (arrange-element-at t) arrange-element.Post
-  arrange-element-add-arrange-content c = omega (arith, c.before.before.before.before.before.before.before.before.requires.1.0.node.node.held)
+  arrange-element-add-arrange-content c = omega (arith, c.before.before.before.before.before.before.before.before.requires.1.0.node.held)
 
   arrange-element-add-arrange-content-2 : arrange-element-lts.Need-overflow-add-arrange-content-2 (arrange-element-calls t) (arrange-element-at t) arrange-element.Post
   arrange-element-add-arrange-content-2 c = omega (arith, c.before.before.before.before.before.before.before.before.before.requires.1.0.fits)

@@ -2,14 +2,11 @@
 -- that of its element's key children and of what it holds. The nodes left fall. Assumes nothing.
 use native.Mathlib.Omega.{arith}
 use mathlib.Core.Path.{sym, ◌∙◌}
-use Rattle.xml.specs.Read.{tag_of}
 use Rattle.xml.specs.Tape.{next_at}
-use Rattle.xml.specs.TapeLaws.{bytes_at, inner-node, open-tag}
-use Rattle.keys.specs.Version.{◌▸◌, unkeyed}
-use Rattle.keys.specs.TagBytes.{place-tag}
+use Rattle.xml.specs.TapeLaws.{bytes_at, inner-node}
+use Rattle.keys.specs.Version.{◌▸◌}
 use Rattle.keys.specs.Walks.{Walk, OfNodes, walk-front, walk-node, walk-next, walk-kids, Going, going_start, going_more, going-found, going_done}
-use Rattle.keys.specs.Strays.{unkeyed-other, unkeyed-lacking, unkeyed-inside, unkeyed-here, unkeyed-past}
-use Rattle.keys.specs.Beneath.{front-keyed}
+use Rattle.keys.specs.Strays.{keyless, keyless-end, keyless-other, keyless-under, keyless-lacking, keyless-inside, keyless-here, keyless-past}
 use Prim.Native.Nat.{ℕ, ◌+◌, ◌*◌, ◌-◌, ◌<◌, ◌≤◌}
 use borrow.Author.Tests.{not-true}
 use borrow.Fn.Kinds.{In}
@@ -50,7 +47,7 @@ unkeyed-content-calls t = (unkeyed-node-below t, unkeyed-node.Post, view-at-read
 
 abbrev unkeyed-content-Inv-loop : unkeyed-content-lts.invariant-loop
 unkeyed-content-Inv-loop text table n place src tape lo hi p₀ p =
-    (lo ≤ p) × Walk text table n place src tape p hi × OfNodes text table n place src tape lo hi (λ K q f. Going src tape p hi (unkeyed K q f) (unkeyed K q))
+    (lo ≤ p) × Walk text table n place src tape p hi × OfNodes text table n place src tape lo hi (λ K q f. Going src tape p hi (keyless K q f) (keyless K q))
 
 abbrev unkeyed-content-μ-loop : unkeyed-content-lts.decreases-loop
 unkeyed-content-μ-loop text table n place src tape lo hi p₀ p = hi - p
@@ -60,7 +57,7 @@ unkeyed-node-calls t = (view-at-reads.Asked, view-at-reads.Learnt, child-reads.A
 
 module _ (t : ℕ) where
   unkeyed-content-loop-holds : unkeyed-content-lts.Need-loop-init (unkeyed-content-calls t) (unkeyed-content-at t) unkeyed-content.Post unkeyed-content-Inv-loop unkeyed-content-μ-loop
-  unkeyed-content-loop-holds c = (omega arith, c.before.before.before.before.requires.1, λ K q s e f h. going_start (unkeyed K q) h)
+  unkeyed-content-loop-holds c = (omega arith, c.before.before.before.before.requires.1, λ K q s e f h. going_start (keyless K q) h)
 
   unkeyed-content-unkeyed-node-requires : unkeyed-content-lts.Need-unkeyed-node-requires (unkeyed-content-calls t) (unkeyed-content-at t) unkeyed-content.Post unkeyed-content-Inv-loop unkeyed-content-μ-loop
   unkeyed-content-unkeyed-node-requires c κs =
@@ -69,7 +66,7 @@ module _ (t : ℕ) where
 
   unkeyed-content-returns : unkeyed-content-lts.Need-returns (unkeyed-content-calls t) (unkeyed-content-at t) unkeyed-content.Post unkeyed-content-Inv-loop unkeyed-content-μ-loop
   unkeyed-content-returns c K q s e f h =
-      sym (going-found (c.before.before.before.loop.invariant.2 K q s e f h) c.before.before.loop-test.true (λ x y k. unkeyed-here K q x y (sym (c.before.unkeyed-node.ensures K q s e x k) ∙ c.if1.true)))
+      sym (going-found (c.before.before.before.loop.invariant.2 K q s e f h) c.before.before.loop-test.true (λ x y k. keyless-here K q x y (sym (c.before.unkeyed-node.ensures K q s e x k) ∙ c.if1.true)))
 
   unkeyed-content-view-at-requires : unkeyed-content-lts.Need-view-at-requires (unkeyed-content-calls t) (unkeyed-content-at t) unkeyed-content.Post unkeyed-content-Inv-loop unkeyed-content-μ-loop
   unkeyed-content-view-at-requires c κs = (walk-front c.before.before.before.loop.invariant.1 c.before.before.loop-test.true).held
@@ -84,12 +81,11 @@ module _ (t : ℕ) where
       rw c.view-at.ensures (
         omega (arith, s.forward, c.before.before.before.before.loop.invariant.0),
         walk-next c.before.before.before.before.loop.invariant.1 l,
-        λ K q t e f h. going_more (unkeyed K q) (c.before.before.before.before.loop.invariant.2 K q t e f h) l (λ x y k. unkeyed-past K q x y (sym (c.before.before.unkeyed-node.ensures K q t e x k) ∙ c.before.if1.false)),
+        λ K q t e f h. going_more (keyless K q) (c.before.before.before.before.loop.invariant.2 K q t e f h) l (λ x y k. keyless-past K q x y (sym (c.before.before.unkeyed-node.ensures K q t e x k) ∙ c.before.if1.false)),
       )
 
   unkeyed-content-returns-2 : unkeyed-content-lts.Need-returns-2 (unkeyed-content-calls t) (unkeyed-content-at t) unkeyed-content.Post unkeyed-content-Inv-loop unkeyed-content-μ-loop
-  unfolding unkeyed
-  unkeyed-content-returns-2 c K q s e f h = sym (going_done (c.before.loop.invariant.2 K q s e f h) c.loop-test.false)
+  unkeyed-content-returns-2 c K q s e f h = sym (going_done (c.before.loop.invariant.2 K q s e f h) c.loop-test.false ∙ keyless-end K q)
 
 module _ (t : ℕ) where
   below : (c : unkeyed-node-lts.After-child (unkeyed-node-calls t) (unkeyed-node-at t) unkeyed-node.Post)
@@ -103,7 +99,7 @@ module _ (t : ℕ) where
   unkeyed-node-view-at-requires c κs = (walk-front c.before.before.before.before.requires.1.1 c.before.before.before.before.requires.1.0).held
 
   unkeyed-node-returns : unkeyed-node-lts.Need-returns (unkeyed-node-calls t) (unkeyed-node-at t) unkeyed-node.Post
-  unkeyed-node-returns c K q s e f h = sym (unkeyed-other K q h (rw c.before.before.view-at.ensures at c.if1.true))
+  unkeyed-node-returns c K q s e f h = sym (keyless-other K q h (rw c.before.before.view-at.ensures at c.if1.true))
 
   unkeyed-node-child-requires : unkeyed-node-lts.Need-child-requires (unkeyed-node-calls t) (unkeyed-node-at t) unkeyed-node.Post
   unkeyed-node-child-requires c κs = rw c.before.before.view-at.ensures (c.before.before.before.before.before.before.before.requires.1.1.placed, omega arith, (walk-front c.before.before.before.before.before.before.before.requires.1.1 c.before.before.before.before.before.before.before.requires.1.0).within)
@@ -119,9 +115,9 @@ module _ (t : ℕ) where
       let v = c.before.before.before.before.before.view-at.ensures in
       let k = rw v at c.before.before.before.if1.false in
       let i = inner-node h c.before.before.before.before.before.before.before.before.before.before.requires.1.0 (λ z. omega arith) in
-      let w = sym ((rw v at c.before.before.child.ensures) K q s e ∙ place-tag (open-tag h c.before.before.before.before.before.before.before.before.before.before.requires.1.0 k) s q) in
+      let d = rw v at c.before.before.child.ensures in
       let o = rw v at c.before.lacks-key.ensures in
-      sym (unkeyed-lacking K q (i.element k) (sym (o K (q ▸ tag_of (bytes_at c.before.before.before.before.before.before.before.before.before.before.args.src.now c.before.before.before.before.before.before.before.before.before.before.args.tape.now c.before.before.before.before.before.before.before.before.before.before.args.p)) s w i.kids i.tape) ∙ c.if2.true))
+      sym (keyless-lacking K q (i.element k) (sym (o K (q ▸ bytes_at c.before.before.before.before.before.before.before.before.before.before.args.src.now c.before.before.before.before.before.before.before.before.before.before.args.tape.now c.before.before.before.before.before.before.before.before.before.before.args.p) s (sym (d K q s e)) i.kids i.tape) ∙ c.if2.true))
 
   unkeyed-node-is-above-requires : unkeyed-node-lts.Need-is-above-requires (unkeyed-node-calls t) (unkeyed-node-at t) unkeyed-node.Post
   unkeyed-node-is-above-requires c κs = c.before.before.before.before.before.before.before.before.before.before.requires.1.1.placed.table.held
@@ -131,10 +127,10 @@ module _ (t : ℕ) where
       let v = c.before.before.before.before.before.before.before.view-at.ensures in
       let k = rw v at c.before.before.before.before.before.if1.false in
       let i = inner-node h c.before.before.before.before.before.before.before.before.before.before.before.before.requires.1.0 (λ z. omega arith) in
-      let w = sym ((rw v at c.before.before.before.before.child.ensures) K q s e ∙ place-tag (open-tag h c.before.before.before.before.before.before.before.before.before.before.before.before.requires.1.0 k) s q) in
+      let d = rw v at c.before.before.before.before.child.ensures in
       let o = rw v at c.before.before.before.lacks-key.ensures in
-      let n = q ▸ tag_of (bytes_at c.before.before.before.before.before.before.before.before.before.before.before.before.args.src.now c.before.before.before.before.before.before.before.before.before.before.before.before.args.tape.now c.before.before.before.before.before.before.before.before.before.before.before.before.args.p) in
-      sym (unkeyed-inside K q (i.element k) (sym (o K n s w i.kids i.tape) ∙ c.before.before.if2.false) ∙ front-keyed K n i.kids (sym (c.before.is-above.ensures c.before.before.before.before.before.before.before.before.before.before.before.before.args.text.now K n s w) ∙ not-true _ c.if3.true))
+      let n = q ▸ bytes_at c.before.before.before.before.before.before.before.before.before.before.before.before.args.src.now c.before.before.before.before.before.before.before.before.before.before.before.before.args.tape.now c.before.before.before.before.before.before.before.before.before.before.before.before.args.p in
+      sym (keyless-inside K q (i.element k) (sym (o K n s (sym (d K q s e)) i.kids i.tape) ∙ c.before.before.if2.false) ∙ keyless-under K n i.kids (sym (c.before.is-above.ensures c.before.before.before.before.before.before.before.before.before.before.before.before.args.text.now K n s (sym (d K q s e))) ∙ not-true _ c.if3.true))
 
   unkeyed-node-add-unkeyed-content : unkeyed-node-lts.Need-overflow-add-unkeyed-content (unkeyed-node-calls t) (unkeyed-node-at t) unkeyed-node.Post
   unkeyed-node-add-unkeyed-content c = omega (arith, (walk-front c.before.before.before.before.before.before.before.before.before.before.before.before.requires.1.1 c.before.before.before.before.before.before.before.before.before.before.before.before.requires.1.0).held, c.before.before.before.before.before.before.before.before.before.before.before.before.well-formed.1.1.1.1.1.0)
@@ -147,11 +143,11 @@ module _ (t : ℕ) where
       let v = c.before.before.before.before.before.before.before.before.view-at.ensures in
       let k = rw v at c.before.before.before.before.before.before.if1.false in
       let i = inner-node h c.before.before.before.before.before.before.before.before.before.before.before.before.before.requires.1.0 (λ z. omega arith) in
-      let w = sym ((rw v at c.before.before.before.before.before.child.ensures) K q s e ∙ place-tag (open-tag h c.before.before.before.before.before.before.before.before.before.before.before.before.before.requires.1.0 k) s q) in
+      let d = rw v at c.before.before.before.before.before.child.ensures in
       let o = rw v at c.before.before.before.before.lacks-key.ensures in
       let r = rw v at c.unkeyed-content.ensures in
-      let n = q ▸ tag_of (bytes_at c.before.before.before.before.before.before.before.before.before.before.before.before.before.args.src.now c.before.before.before.before.before.before.before.before.before.before.before.before.before.args.tape.now c.before.before.before.before.before.before.before.before.before.before.before.before.before.args.p) in
-      r K n s w i.kids i.tape ∙ sym (unkeyed-inside K q (i.element k) (sym (o K n s w i.kids i.tape) ∙ c.before.before.before.if2.false))
+      let n = q ▸ bytes_at c.before.before.before.before.before.before.before.before.before.before.before.before.before.args.src.now c.before.before.before.before.before.before.before.before.before.before.before.before.before.args.tape.now c.before.before.before.before.before.before.before.before.before.before.before.before.before.args.p in
+      r K n s (sym (d K q s e)) i.kids i.tape ∙ sym (keyless-inside K q (i.element k) (sym (o K n s (sym (d K q s e)) i.kids i.tape) ∙ c.before.before.before.if2.false))
 
 pub +unkeyed-content-unkeyed-node-spec : {M : Type 1} → statement M
 +unkeyed-content-unkeyed-node-spec =

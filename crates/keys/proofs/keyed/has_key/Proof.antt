@@ -19,7 +19,7 @@ view-at-requires c κs = (called-some (c.before.find-key.ensures c.before.before
 find-key-requires-2 : tie.Need-find-key-requires-2
 find-key-requires-2 c κs =
     let x = called-some (c.before.before.find-key.ensures c.before.before.before.before.before.before.requires.0.forest c.before.before.before.before.before.before.requires.0.tape) c.before.if1.false in
-    rw c.view-at.ensures (omega arith, omega arith, c.before.before.before.before.before.before.requires.3, record { forest = x.rest; tape = x.after })
+    rw c.view-at.ensures (omega arith, omega arith, record { forest = x.rest; tape = x.after })
 
 returns-2 : tie.Need-returns-2
 returns-2 c f h =

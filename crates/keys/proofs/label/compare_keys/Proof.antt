@@ -12,7 +12,7 @@ use Rattle.keys.specs.Version.{called, value_in}
 use Rattle.keys.specs.Placed.{OfPlace}
 use Rattle.keys.specs.Ranks.{rank, compare_bytes}
 use Rattle.keys.specs.Labelled.{values_of}
-use Rattle.keys.specs.LabelLaws.{key-room, key-within, key-named, key-name-is, key_bytes, value-node, values-differ, values-on, values-done}
+use Rattle.keys.specs.LabelLaws.{key-room, key-within, key-name-is, key_bytes, value-node, values-differ, values-on, values-done}
 use Rattle.keys.proofs.label.compare_keys.Statement.{statement}
 use Rattle.keys.proofs.label.compare_keys.Tie as tie
 use Rattle.keys.proofs.label.compare_keys.Reads as reads
@@ -73,10 +73,10 @@ key-name-requires : tie.Need-key-name-requires invariant-loop decreases-loop
 key-name-requires c κs = omega (arith, room c, c.before.before.before.before.before.before.before.before.before.requires.0.tabled.held)
 
 find-key-requires : tie.Need-find-key-requires invariant-loop decreases-loop
-find-key-requires c κs = rw c.key-name.ensures (omega arith, key-within c.before.before.before.before.before.before.before.before.before.before.requires.0.tabled c.before.before.before.before.before.before.before.before.before.before.requires.0.path c.before.before.before.before.before.before.before.before.before.before.args.own c.before.before.before.before.before.before.before.before.before.before.requires.0.place_is c.before.before.loop.i (first c.before), key-named c.before.before.before.before.before.before.before.before.before.before.requires.0.tabled c.before.before.before.before.before.before.before.before.before.before.requires.0.path c.before.before.before.before.before.before.before.before.before.before.args.own c.before.before.before.before.before.before.before.before.before.before.requires.0.place_is c.before.before.loop.i (first c.before), record { forest = c.before.before.before.before.before.before.before.before.before.before.requires.0.kids; tape = c.before.before.before.before.before.before.before.before.before.before.requires.0.tape })
+find-key-requires c κs = rw c.key-name.ensures (omega arith, key-within c.before.before.before.before.before.before.before.before.before.before.requires.0.tabled c.before.before.before.before.before.before.before.before.before.before.requires.0.path c.before.before.before.before.before.before.before.before.before.before.args.own c.before.before.before.before.before.before.before.before.before.before.requires.0.place_is c.before.before.loop.i (first c.before), record { forest = c.before.before.before.before.before.before.before.before.before.before.requires.0.kids; tape = c.before.before.before.before.before.before.before.before.before.before.requires.0.tape })
 
 find-key-requires-2 : tie.Need-find-key-requires-2 invariant-loop decreases-loop
-find-key-requires-2 c κs = rw c.before.key-name.ensures (omega arith, key-within c.before.before.before.before.before.before.before.before.before.before.before.requires.0.tabled c.before.before.before.before.before.before.before.before.before.before.before.requires.0.path c.before.before.before.before.before.before.before.before.before.before.before.args.own c.before.before.before.before.before.before.before.before.before.before.before.requires.0.place_is c.before.before.before.loop.i (first c.before.before), key-named c.before.before.before.before.before.before.before.before.before.before.before.requires.0.tabled c.before.before.before.before.before.before.before.before.before.before.before.requires.0.path c.before.before.before.before.before.before.before.before.before.before.before.args.own c.before.before.before.before.before.before.before.before.before.before.before.requires.0.place_is c.before.before.before.loop.i (first c.before.before), record { forest = c.before.before.before.before.before.before.before.before.before.before.before.requires.1.kids; tape = c.before.before.before.before.before.before.before.before.before.before.before.requires.1.tape })
+find-key-requires-2 c κs = rw c.before.key-name.ensures (omega arith, key-within c.before.before.before.before.before.before.before.before.before.before.before.requires.0.tabled c.before.before.before.before.before.before.before.before.before.before.before.requires.0.path c.before.before.before.before.before.before.before.before.before.before.before.args.own c.before.before.before.before.before.before.before.before.before.before.before.requires.0.place_is c.before.before.before.loop.i (first c.before.before), record { forest = c.before.before.before.before.before.before.before.before.before.before.before.requires.1.kids; tape = c.before.before.before.before.before.before.before.before.before.before.before.requires.1.tape })
 
 add-view-at : tie.Need-overflow-add-view-at invariant-loop decreases-loop
 add-view-at c = omega (arith, (value-1 c c.before.before.before.before.before.before.before.before.before.before.before.before.requires.0.kids c.before.before.before.before.before.before.before.before.before.before.before.before.requires.0.tape).held)

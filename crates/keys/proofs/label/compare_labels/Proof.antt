@@ -2,10 +2,9 @@
 use native.Mathlib.Omega.{arith}
 use mathlib.Core.Path.{◌≡◌, sym, ◌∙◌, ap}
 use Rattle.xml.specs.Bytes.{Bytes}
-use Rattle.xml.specs.Tape.{Tagged}
+use Rattle.xml.specs.Tape.{Node}
 use Rattle.keys.specs.Version.{◌▸◌}
 use Rattle.keys.specs.Ranks.{rank, compare_bytes}
-use Rattle.keys.specs.TagBytes.{bare-bytes}
 use Rattle.keys.specs.LabelLaws.{names-differ, names_same, names-on}
 use borrow.Author.Rules.{rules}
 use Rattle.keys.proofs.label.compare_labels.Statement.{statement}
@@ -21,12 +20,9 @@ abbrev calls : lts.Claims
 calls = (view-at-reads.Asked, view-at-reads.Learnt, compare-bytes-reads.Asked, compare-bytes-reads.Learnt, child-reads.Asked, child-reads.Learnt, compare-keys-reads.Asked, compare-keys-reads.Learnt)
 
 -- the answer on the names, whichever they are
-named : (c : lts.After-compare-bytes calls reads.Pre reads.Post) (m1 m2 : Bytes) → Tagged c.before.before.before.before.before.before.before.before.before.args.src1.now c.before.before.before.before.before.before.before.before.before.args.tape1.now c.before.before.before.before.before.before.before.before.before.args.p1 m1
-    → Tagged c.before.before.before.before.before.before.before.before.before.args.src2.now c.before.before.before.before.before.before.before.before.before.args.tape2.now c.before.before.before.before.before.before.before.before.before.args.p2 m2 → c.compare-bytes.result ≡ rank (compare_bytes m1 m2)
-named c m1 m2 a1 a2 =
-    let x = c.before.before.before.before.before.before.before.before.before.requires.0 in
-    let y = c.before.before.before.before.before.before.before.before.before.requires.1 in
-    rw (c.before.before.view-at.ensures, c.before.view-at2.ensures, bare-bytes x.node x.bare a1, bare-bytes y.node y.bare a2) at c.compare-bytes.ensures
+named : (c : lts.After-compare-bytes calls reads.Pre reads.Post) (m1 m2 : Bytes) → Node c.before.before.before.before.before.before.before.before.before.args.src1.now c.before.before.before.before.before.before.before.before.before.args.tape1.now c.before.before.before.before.before.before.before.before.before.args.p1 1 m1
+    → Node c.before.before.before.before.before.before.before.before.before.args.src2.now c.before.before.before.before.before.before.before.before.before.args.tape2.now c.before.before.before.before.before.before.before.before.before.args.p2 1 m2 → c.compare-bytes.result ≡ rank (compare_bytes m1 m2)
+named c m1 m2 a1 a2 = rw (c.before.before.view-at.ensures, c.before.view-at2.ensures, a1.bytes-are, a2.bytes-are) at c.compare-bytes.ensures
 
 alike : (c : lts.Else1 calls reads.Pre reads.Post) → c.before.before.before.before.before.before.before.before.before.before.requires.0.name ≡ c.before.before.before.before.before.before.before.before.before.before.requires.1.name
 alike c =
@@ -40,7 +36,7 @@ view-at-requires-2 : tie.Need-view-at-requires-2
 view-at-requires-2 c κs = search rules
 
 compare-bytes-requires : tie.Need-compare-bytes-requires
-compare-bytes-requires c κs = rw (c.before.view-at.ensures, c.view-at2.ensures) (omega arith, c.before.before.before.before.before.before.before.before.requires.0.node.node.within, omega arith, c.before.before.before.before.before.before.before.before.requires.1.node.node.within)
+compare-bytes-requires c κs = rw (c.before.view-at.ensures, c.view-at2.ensures) (omega arith, c.before.before.before.before.before.before.before.before.requires.0.node.within, omega arith, c.before.before.before.before.before.before.before.before.requires.1.node.within)
 
 returns : tie.Need-returns
 returns c K p t e m1 k1 m2 k2 a1 b1 a2 b2 =
@@ -49,13 +45,13 @@ returns c K p t e m1 k1 m2 k2 a1 b1 a2 b2 =
 
 child-requires : tie.Need-child-requires
 child-requires c κs = rw c.before.before.before.view-at.ensures
-    (record { key_list = c.before.before.before.before.before.before.before.before.before.before.requires.0.key_list; path = c.before.before.before.before.before.before.before.before.before.before.requires.0.path; table = c.before.before.before.before.before.before.before.before.before.before.requires.0.tabled; place_is = c.before.before.before.before.before.before.before.before.before.before.requires.0.place_is }, omega arith, c.before.before.before.before.before.before.before.before.before.before.requires.0.node.node.within)
+    (record { key_list = c.before.before.before.before.before.before.before.before.before.before.requires.0.key_list; path = c.before.before.before.before.before.before.before.before.before.before.requires.0.path; table = c.before.before.before.before.before.before.before.before.before.before.requires.0.tabled; place_is = c.before.before.before.before.before.before.before.before.before.before.requires.0.place_is }, omega arith, c.before.before.before.before.before.before.before.before.before.before.requires.0.node.within)
 
 add-compare-keys : tie.Need-overflow-add-compare-keys
-add-compare-keys c = omega (arith, c.before.before.before.before.before.before.before.before.before.before.before.requires.0.node.node.held, c.before.before.before.before.before.before.before.before.before.before.before.well-formed.1.1.1.1.1.0)
+add-compare-keys c = omega (arith, c.before.before.before.before.before.before.before.before.before.before.before.requires.0.node.held, c.before.before.before.before.before.before.before.before.before.before.before.well-formed.1.1.1.1.1.0)
 
 add-compare-keys-2 : tie.Need-overflow-add-compare-keys-2
-add-compare-keys-2 c = omega (arith, c.before.before.before.before.before.before.before.before.before.before.before.requires.1.node.node.held, c.before.before.before.before.before.before.before.before.before.before.before.well-formed.1.1.1.1.1.1.1.1.0)
+add-compare-keys-2 c = omega (arith, c.before.before.before.before.before.before.before.before.before.before.before.requires.1.node.held, c.before.before.before.before.before.before.before.before.before.before.before.well-formed.1.1.1.1.1.1.1.1.0)
 
 compare-keys-requires : tie.Need-compare-keys-requires
 compare-keys-requires c κs = rw (c.before.before.before.before.view-at.ensures, c.before.before.before.view-at2.ensures) (
@@ -63,7 +59,7 @@ compare-keys-requires c κs = rw (c.before.before.before.before.view-at.ensures,
     key_list = c.before.before.before.before.before.before.before.before.before.before.before.requires.0.key_list;
     path = c.before.before.before.before.before.before.before.before.before.before.before.requires.0.path ▸ c.before.before.before.before.before.before.before.before.before.before.before.requires.0.name;
     tabled = c.before.before.before.before.before.before.before.before.before.before.before.requires.0.tabled;
-    place_is = sym (rw (c.before.before.before.before.view-at.ensures, bare-bytes c.before.before.before.before.before.before.before.before.before.before.before.requires.0.node c.before.before.before.before.before.before.before.before.before.before.before.requires.0.bare c.before.before.before.before.before.before.before.before.before.before.before.requires.0.node) at (c.child.ensures c.before.before.before.before.before.before.before.before.before.before.before.requires.0.key_list c.before.before.before.before.before.before.before.before.before.before.before.requires.0.path c.before.before.before.before.before.before.before.before.before.before.before.requires.0.tabled c.before.before.before.before.before.before.before.before.before.before.before.requires.0.place_is));
+    place_is = sym (rw (c.before.before.before.before.view-at.ensures, c.before.before.before.before.before.before.before.before.before.before.before.requires.0.node.bytes-are) at (c.child.ensures c.before.before.before.before.before.before.before.before.before.before.before.requires.0.key_list c.before.before.before.before.before.before.before.before.before.before.before.requires.0.path c.before.before.before.before.before.before.before.before.before.before.before.requires.0.tabled c.before.before.before.before.before.before.before.before.before.before.before.requires.0.place_is));
     kids = c.before.before.before.before.before.before.before.before.before.before.before.requires.0.kids;
     tape = c.before.before.before.before.before.before.before.before.before.before.before.requires.0.tape;
     once = c.before.before.before.before.before.before.before.before.before.before.before.requires.0.once;
@@ -72,7 +68,7 @@ compare-keys-requires c κs = rw (c.before.before.before.before.view-at.ensures,
     key_list = c.before.before.before.before.before.before.before.before.before.before.before.requires.1.key_list;
     path = c.before.before.before.before.before.before.before.before.before.before.before.requires.1.path ▸ c.before.before.before.before.before.before.before.before.before.before.before.requires.1.name;
     tabled = c.before.before.before.before.before.before.before.before.before.before.before.requires.1.tabled;
-    place_is = sym (rw (c.before.before.before.before.view-at.ensures, bare-bytes c.before.before.before.before.before.before.before.before.before.before.before.requires.0.node c.before.before.before.before.before.before.before.before.before.before.before.requires.0.bare c.before.before.before.before.before.before.before.before.before.before.before.requires.0.node, alike c.before) at (c.child.ensures c.before.before.before.before.before.before.before.before.before.before.before.requires.1.key_list c.before.before.before.before.before.before.before.before.before.before.before.requires.1.path c.before.before.before.before.before.before.before.before.before.before.before.requires.1.tabled c.before.before.before.before.before.before.before.before.before.before.before.requires.1.place_is));
+    place_is = sym (rw (c.before.before.before.before.view-at.ensures, c.before.before.before.before.before.before.before.before.before.before.before.requires.0.node.bytes-are, alike c.before) at (c.child.ensures c.before.before.before.before.before.before.before.before.before.before.before.requires.1.key_list c.before.before.before.before.before.before.before.before.before.before.before.requires.1.path c.before.before.before.before.before.before.before.before.before.before.before.requires.1.tabled c.before.before.before.before.before.before.before.before.before.before.before.requires.1.place_is));
     kids = c.before.before.before.before.before.before.before.before.before.before.before.requires.1.kids;
     tape = c.before.before.before.before.before.before.before.before.before.before.before.requires.1.tape;
     once = c.before.before.before.before.before.before.before.before.before.before.before.requires.1.once;
@@ -82,7 +78,7 @@ compare-keys-requires c κs = rw (c.before.before.before.before.view-at.ensures,
 returns-2 : tie.Need-returns-2
 returns-2 c K p t e m1 k1 m2 k2 a1 b1 a2 b2 =
     let o = named c.before.before.before m1 m2 a1 a2 in
-    let s = sym (rw (c.before.before.before.before.before.view-at.ensures, bare-bytes c.before.before.before.before.before.before.before.before.before.before.before.before.requires.0.node c.before.before.before.before.before.before.before.before.before.before.before.before.requires.0.bare a1) at (c.before.child.ensures K p t e)) in
+    let s = sym (rw (c.before.before.before.before.before.view-at.ensures, a1.bytes-are) at (c.before.child.ensures K p t e)) in
     (rw (c.before.before.before.before.before.view-at.ensures, c.before.before.before.before.view-at2.ensures) at c.compare-keys.ensures) K (p ▸ m1) t s k1 k2 b1 b2
     ∙ sym (ap rank (names-on K p m1 k1 m2 k2 (sym o ∙ c.before.before.if1.false)))
 

@@ -2,10 +2,9 @@
 use native.Mathlib.Omega.{arith}
 use mathlib.Core.Path.{◌≡◌, sym, ◌∙◌, ap}
 use Rattle.xml.specs.Bytes.{Bytes}
-use Rattle.xml.specs.Tape.{Tagged}
+use Rattle.xml.specs.Tape.{Node}
 use Rattle.keys.specs.Version.{◌▸◌}
 use Rattle.keys.specs.Ranks.{rank, compare_bytes}
-use Rattle.keys.specs.TagBytes.{bare-bytes}
 use Rattle.keys.specs.LabelLaws.{names-differ, names_same, names-on}
 use borrow.Author.Rules.{rules}
 use Rattle.keys.proofs.label.compare_labels_at.Statement.{statement}
@@ -20,12 +19,9 @@ abbrev calls : lts.Claims
 calls = (view-at-reads.Asked, view-at-reads.Learnt, compare-bytes-reads.Asked, compare-bytes-reads.Learnt, compare-keys-reads.Asked, compare-keys-reads.Learnt)
 
 -- the answer on the names, whichever they are
-named : (c : lts.After-compare-bytes calls reads.Pre reads.Post) (m1 m2 : Bytes) → Tagged c.before.before.before.before.before.before.before.before.before.args.src1.now c.before.before.before.before.before.before.before.before.before.args.tape1.now c.before.before.before.before.before.before.before.before.before.args.p1 m1
-    → Tagged c.before.before.before.before.before.before.before.before.before.args.src2.now c.before.before.before.before.before.before.before.before.before.args.tape2.now c.before.before.before.before.before.before.before.before.before.args.p2 m2 → c.compare-bytes.result ≡ rank (compare_bytes m1 m2)
-named c m1 m2 a1 a2 =
-    let x = c.before.before.before.before.before.before.before.before.before.requires.first in
-    let y = c.before.before.before.before.before.before.before.before.before.requires.second in
-    rw (c.before.before.view-at.ensures, c.before.view-at2.ensures, bare-bytes x.node x.bare a1, bare-bytes y.node y.bare a2) at c.compare-bytes.ensures
+named : (c : lts.After-compare-bytes calls reads.Pre reads.Post) (m1 m2 : Bytes) → Node c.before.before.before.before.before.before.before.before.before.args.src1.now c.before.before.before.before.before.before.before.before.before.args.tape1.now c.before.before.before.before.before.before.before.before.before.args.p1 1 m1
+    → Node c.before.before.before.before.before.before.before.before.before.args.src2.now c.before.before.before.before.before.before.before.before.before.args.tape2.now c.before.before.before.before.before.before.before.before.before.args.p2 1 m2 → c.compare-bytes.result ≡ rank (compare_bytes m1 m2)
+named c m1 m2 a1 a2 = rw (c.before.before.view-at.ensures, c.before.view-at2.ensures, a1.bytes-are, a2.bytes-are) at c.compare-bytes.ensures
 
 view-at-requires : tie.Need-view-at-requires
 view-at-requires c κs = search rules
@@ -34,7 +30,7 @@ view-at-requires-2 : tie.Need-view-at-requires-2
 view-at-requires-2 c κs = search rules
 
 compare-bytes-requires : tie.Need-compare-bytes-requires
-compare-bytes-requires c κs = rw (c.before.view-at.ensures, c.view-at2.ensures) (omega arith, c.before.before.before.before.before.before.before.before.requires.first.node.node.within, omega arith, c.before.before.before.before.before.before.before.before.requires.second.node.node.within)
+compare-bytes-requires c κs = rw (c.before.view-at.ensures, c.view-at2.ensures) (omega arith, c.before.before.before.before.before.before.before.before.requires.first.node.within, omega arith, c.before.before.before.before.before.before.before.before.requires.second.node.within)
 
 returns : tie.Need-returns
 returns c K p m1 k1 m2 k2 t e a1 b1 a2 b2 =
@@ -42,10 +38,10 @@ returns c K p m1 k1 m2 k2 t e a1 b1 a2 b2 =
     o ∙ sym (ap rank (names-differ K p m1 k1 m2 k2 (λ z. c.if1.true (o ∙ z))))
 
 add-compare-keys : tie.Need-overflow-add-compare-keys
-add-compare-keys c = omega (arith, c.before.before.before.before.before.before.before.before.before.before.requires.first.node.node.held, c.before.before.before.before.before.before.before.before.before.before.well-formed.1.1.1.1.1.0)
+add-compare-keys c = omega (arith, c.before.before.before.before.before.before.before.before.before.before.requires.first.node.held, c.before.before.before.before.before.before.before.before.before.before.well-formed.1.1.1.1.1.0)
 
 add-compare-keys-2 : tie.Need-overflow-add-compare-keys-2
-add-compare-keys-2 c = omega (arith, c.before.before.before.before.before.before.before.before.before.before.requires.second.node.node.held, c.before.before.before.before.before.before.before.before.before.before.well-formed.1.1.1.1.1.1.1.1.0)
+add-compare-keys-2 c = omega (arith, c.before.before.before.before.before.before.before.before.before.before.requires.second.node.held, c.before.before.before.before.before.before.before.before.before.before.well-formed.1.1.1.1.1.1.1.1.0)
 
 compare-keys-requires : tie.Need-compare-keys-requires
 compare-keys-requires c κs =

@@ -24,7 +24,7 @@ decreases-loop text a e src tape lo hi p₀ p = hi - p
 
 turn : (c : lts.In-loop (view-at-reads.Asked, view-at-reads.Learnt, same-bytes-reads.Asked, same-bytes-reads.Learnt) reads.Pre reads.Post invariant-loop decreases-loop)
     → Front c.before.before.before.before.before.args.src.now c.before.before.before.before.before.args.tape.now c.before.loop.p c.before.before.before.before.before.args.hi
-turn c = front (c.before.loop.invariant c.before.before.before.before.before.requires.3.forest c.before.before.before.before.before.requires.3.tape).tape c.loop-test.true
+turn c = front (c.before.loop.invariant c.before.before.before.before.before.requires.2.forest c.before.before.before.before.before.requires.2.tape).tape c.loop-test.true
 
 loop-holds : tie.Need-loop-init invariant-loop decreases-loop
 loop-holds c f h = going_start _ h
@@ -36,13 +36,13 @@ same-bytes-requires : tie.Need-same-bytes-requires invariant-loop decreases-loop
 same-bytes-requires c κs = rw c.before.before.view-at.ensures (record { le₁ = omega arith; in₁ = omega arith; le₂ = omega arith; in₂ = (turn c.before.before.before).within })
 
 returns : tie.Need-returns invariant-loop decreases-loop
-returns c f h = key_here (slice c.before.before.before.before.before.before.before.before.before.before.args.a c.before.before.before.before.before.before.before.before.before.before.args.e c.before.before.before.before.before.before.before.before.before.before.args.text.now) (c.before.before.before.before.before.before.loop.invariant f h) c.before.before.before.before.before.loop-test.true c.before.before.before.before.before.before.before.before.before.before.requires.2 (rw c.before.before.before.before.view-at.ensures at c.before.before.if1.true) (rw c.before.before.before.before.view-at.ensures at (sym c.before.same_bytes.ensures ∙ c.if2.true))
+returns c f h = key_here (slice c.before.before.before.before.before.before.before.before.before.before.args.a c.before.before.before.before.before.before.before.before.before.before.args.e c.before.before.before.before.before.before.before.before.before.before.args.text.now) (c.before.before.before.before.before.before.loop.invariant f h) c.before.before.before.before.before.loop-test.true (rw c.before.before.before.before.view-at.ensures at c.before.before.if1.true) (rw c.before.before.before.before.view-at.ensures at (sym c.before.same_bytes.ensures ∙ c.if2.true))
 
 loop-less : tie.Need-loop-smaller invariant-loop decreases-loop
 loop-less c = rw c.before.before.before.before.view-at.ensures (omega (arith, (turn c.before.before.before.before.before).forward, (turn c.before.before.before.before.before).inside))
 
 loop-again : tie.Need-loop-preserved invariant-loop decreases-loop
-loop-again c = rw c.before.before.before.before.view-at.ensures (λ f h. key-past (slice c.before.before.before.before.before.before.before.before.before.before.args.a c.before.before.before.before.before.before.before.before.before.before.args.e c.before.before.before.before.before.before.before.before.before.before.args.text.now) (c.before.before.before.before.before.before.loop.invariant f h) c.before.before.before.before.before.loop-test.true c.before.before.before.before.before.before.before.before.before.before.requires.2 (rw c.before.before.before.before.view-at.ensures at c.before.before.if1.true) (rw c.before.before.before.before.view-at.ensures at (sym c.before.same_bytes.ensures ∙ c.if2.false)))
+loop-again c = rw c.before.before.before.before.view-at.ensures (λ f h. key-past (slice c.before.before.before.before.before.before.before.before.before.before.args.a c.before.before.before.before.before.before.before.before.before.before.args.e c.before.before.before.before.before.before.before.before.before.before.args.text.now) (c.before.before.before.before.before.before.loop.invariant f h) c.before.before.before.before.before.loop-test.true (rw c.before.before.before.before.view-at.ensures at c.before.before.if1.true) (rw c.before.before.before.before.view-at.ensures at (sym c.before.same_bytes.ensures ∙ c.if2.false)))
 
 loop-less-2 : tie.Need-loop-smaller-2 invariant-loop decreases-loop
 loop-less-2 c = rw c.before.before.view-at.ensures (omega (arith, (turn c.before.before.before).forward, (turn c.before.before.before).inside))

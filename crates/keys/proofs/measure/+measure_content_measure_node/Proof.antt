@@ -4,14 +4,13 @@ use native.Mathlib.Omega.{arith}
 use mathlib.Core.Path.{◌≡◌, ap, sym, ◌∙◌, subst}
 use mathlib.Core.Bool.{false}
 use borrow.Author.Rules.{rules}
-use Rattle.xml.specs.Read.{unescape, tag_of}
-use Rattle.xml.specs.Tags.{name_of}
+use Rattle.xml.specs.Read.{unescape}
 use Rattle.xml.specs.Tape.{next_at}
-use Rattle.xml.specs.TapeLaws.{bytes_at, text-node, open-tag}
+use Rattle.xml.specs.TapeLaws.{bytes_at, text-node}
 use Rattle.keys.specs.Version.{◌▸◌}
-use Rattle.keys.specs.Walks.{Walk, OfNodes, walk-front, walk-node, walk-next, walk-named, Going, going_start, going_more, going-found, going_done}
+use Rattle.keys.specs.Walks.{Walk, OfNodes, walk-front, walk-node, walk-next, walk-kids, Going, going_start, going_more, going-found, going_done}
 use Rattle.keys.specs.Measure.{Within, measured}
-use Rattle.keys.specs.MeasureLaws.{measured-end, measured-text, measured-within, tags-within, measured-stop, measured-past, measured-inside, measured-other, onward-stop, onward-on}
+use Rattle.keys.specs.MeasureLaws.{measured-end, measured-text, measured-within, tags-within, measured-stop, measured-past, measured-inside, onward-stop, onward-on}
 use Prim.Native.Nat.{ℕ, ◌+◌, ◌*◌, ◌-◌, ◌<◌, ◌≤◌}
 use borrow.Fn.Kinds.{In}
 use borrow.Fn.PlainCycle.{Measures, is, falls, and}
@@ -23,8 +22,8 @@ use Rattle.keys.proofs.measure.measure_node.Kinds as measure-node-kinds
 use Rattle.keys.proofs.measure.+measure_content_measure_node.Lts-measure_node as measure-node-lts
 use Rattle.keys.proofs.measure.add_tags.Reads as add-tags-reads
 use Rattle.keys.proofs.measure.add_text.Reads as add-text-reads
-use Rattle.keys.proofs.measure.named_child.Reads as named-child-reads
 use Rattle.keys.proofs.measure.over.Reads as over_reads
+use Rattle.keys.proofs.places.child.Reads as child-reads
 use Rattle.xml.proofs.tape.view_at.Reads as view-at-reads
 use Rattle.keys.proofs.measure.+measure_content_measure_node.{statement}
 use Rattle.keys.proofs.measure.+measure_content_measure_node.Tie.{close}
@@ -59,7 +58,7 @@ abbrev measure-content-μ-loop : measure-content-lts.decreases-loop
 measure-content-μ-loop text table n place src tape lo hi depth s₀ p₀ s p = hi - p
 
 abbrev measure-node-calls : ℕ → measure-node-lts.Claims
-measure-node-calls t = (view-at-reads.Asked, view-at-reads.Learnt, add-text-reads.Asked, add-text-reads.Learnt, over_reads.Asked, over_reads.Learnt, add-tags-reads.Asked, add-tags-reads.Learnt, named-child-reads.Asked, named-child-reads.Learnt, measure-content-below t, measure-content.Post)
+measure-node-calls t = (view-at-reads.Asked, view-at-reads.Learnt, add-text-reads.Asked, add-text-reads.Learnt, over_reads.Asked, over_reads.Learnt, add-tags-reads.Asked, add-tags-reads.Learnt, child-reads.Asked, child-reads.Learnt, measure-content-below t, measure-content.Post)
 
 module _ (t : ℕ) where
   measure-content-loop-holds : measure-content-lts.Need-loop-init (measure-content-calls t) (measure-content-at t) measure-content.Post measure-content-Inv-loop measure-content-μ-loop
@@ -119,65 +118,49 @@ module _ (t : ℕ) where
 
   measure-node-returns-2 : measure-node-lts.Need-returns-2 (measure-node-calls t) (measure-node-at t) measure-node.Post
   measure-node-returns-2 c K q s e f h =
-      let v = c.before.before.before.before.before.view-at.ensures in
-      c.over.ensures ∙ sym (measured-other K q c.before.before.before.before.before.before.before.before.before.before.args.depth c.before.before.before.before.before.before.before.before.before.before.args.s h c.before.before.before.before.before.before.before.before.before.before.requires.1.0 (rw v at c.before.before.before.if1.false) (rw v at c.before.if2.true))
+      c.over.ensures ∙ sym ((measured-inside K q c.before.before.before.before.before.before.before.before.before.args.depth c.before.before.before.before.before.before.before.before.before.args.s h c.before.before.before.before.before.before.before.before.before.requires.1.0 (rw c.before.before.before.before.view-at.ensures at c.before.before.if1.false)).low c.before.if2.true)
 
-  measure-node-over-requires-2 : measure-node-lts.Need-over-requires-2 (measure-node-calls t) (measure-node-at t) measure-node.Post
-  measure-node-over-requires-2 c κs = search rules
+  measure-node-add-tags-requires : measure-node-lts.Need-add-tags-requires (measure-node-calls t) (measure-node-at t) measure-node.Post
+  measure-node-add-tags-requires c κs = rw c.before.before.before.view-at.ensures (omega arith, (walk-front c.before.before.before.before.before.before.before.before.requires.1.1 c.before.before.before.before.before.before.before.before.requires.1.0).within, omega arith, c.before.before.before.before.before.before.before.before.requires.1.2)
 
   measure-node-returns-3 : measure-node-lts.Need-returns-3 (measure-node-calls t) (measure-node-at t) measure-node.Post
   measure-node-returns-3 c K q s e f h =
-      c.over2.ensures ∙ sym ((measured-inside K q c.before.before.before.before.before.before.before.before.before.before.before.args.depth c.before.before.before.before.before.before.before.before.before.before.before.args.s h c.before.before.before.before.before.before.before.before.before.before.before.requires.1.0 (rw c.before.before.before.before.before.before.view-at.ensures at c.before.before.if2.false)).low c.before.if3.true)
-
-  measure-node-add-tags-requires : measure-node-lts.Need-add-tags-requires (measure-node-calls t) (measure-node-at t) measure-node.Post
-  measure-node-add-tags-requires c κs =
       let v = c.before.before.before.before.before.view-at.ensures in
-      let w = c.before.before.before.before.before.before.before.before.before.before.requires.1.1 in
-      let l = c.before.before.before.before.before.before.before.before.before.before.requires.1.0 in
-      rw v (omega arith, (walk-front w l).within, omega arith, open-tag w.valid.tape l (rw v at c.before.if2.false), c.before.before.before.before.before.before.before.before.before.before.requires.1.2)
-
-  measure-node-returns-4 : measure-node-lts.Need-returns-4 (measure-node-calls t) (measure-node-at t) measure-node.Post
-  measure-node-returns-4 c K q s e f h =
-      let v = c.before.before.before.before.before.before.before.view-at.ensures in
-      let i = measured-inside K q c.before.before.before.before.before.before.before.before.before.before.before.before.args.depth c.before.before.before.before.before.before.before.before.before.before.before.before.args.s h c.before.before.before.before.before.before.before.before.before.before.before.before.requires.1.0 (rw v at c.before.before.before.if2.false) in
+      let i = measured-inside K q c.before.before.before.before.before.before.before.before.before.before.args.depth c.before.before.before.before.before.before.before.before.before.before.args.s h c.before.before.before.before.before.before.before.before.before.before.requires.1.0 (rw v at c.before.before.before.if1.false) in
       let d = rw v at c.before.add-tags.ensures in
-      let l : 0 < c.before.before.before.before.before.before.before.before.before.before.before.before.args.depth = omega arith in
-      sym (i.deep l ∙ onward-stop _ d c.if4.true)
+      let l : 0 < c.before.before.before.before.before.before.before.before.before.before.args.depth = omega arith in
+      sym (i.deep l ∙ onward-stop _ d c.if3.true)
 
-  measure-node-named-child-requires : measure-node-lts.Need-named-child-requires (measure-node-calls t) (measure-node-at t) measure-node.Post
-  measure-node-named-child-requires c κs =
-      let v = c.before.before.before.before.before.before.before.view-at.ensures in
-      let w = c.before.before.before.before.before.before.before.before.before.before.before.before.requires.1.1 in
-      let l = c.before.before.before.before.before.before.before.before.before.before.before.before.requires.1.0 in
-      rw v (w.placed, omega arith, (walk-front w l).within, omega arith, open-tag w.valid.tape l (rw v at c.before.before.before.if2.false))
+  measure-node-child-requires : measure-node-lts.Need-child-requires (measure-node-calls t) (measure-node-at t) measure-node.Post
+  measure-node-child-requires c κs = rw c.before.before.before.before.before.view-at.ensures (c.before.before.before.before.before.before.before.before.before.before.requires.1.1.placed, omega arith, (walk-front c.before.before.before.before.before.before.before.before.before.before.requires.1.1 c.before.before.before.before.before.before.before.before.before.before.requires.1.0).within)
 
   measure-node-sub-d : measure-node-lts.Need-overflow-sub-d (measure-node-calls t) (measure-node-at t) measure-node.Post
   measure-node-sub-d c = omega arith
 
   measure-node-add-measure-content : measure-node-lts.Need-overflow-add-measure-content (measure-node-calls t) (measure-node-at t) measure-node.Post
-  measure-node-add-measure-content c = omega (arith, c.before.before.before.before.before.before.before.before.before.shared-slice-known4.given (2 * c.before.before.before.before.before.before.before.before.before.before.before.before.before.args.p + 1), c.before.before.before.before.before.before.before.before.before.before.before.before.before.requires.1.0)
+  measure-node-add-measure-content c = omega (arith, (walk-front c.before.before.before.before.before.before.before.before.before.before.before.requires.1.1 c.before.before.before.before.before.before.before.before.before.before.before.requires.1.0).held)
 
   measure-node-measure-content-requires : measure-node-lts.Need-measure-content-requires (measure-node-calls t) (measure-node-at t) measure-node.Post
   measure-node-measure-content-requires c κs =
-      let v = c.before.before.before.before.before.before.before.before.view-at.ensures in
+      let v = c.before.before.before.before.before.before.view-at.ensures in
       let d = rw v at c.before.before.add-tags.ensures in
       rw v (
-        omega (arith, c.before.before.before.before.before.before.before.before.before.before.before.before.before.requires.0, c.before.before.before.before.before.before.before.before.before.before.before.before.before.requires.1.0),
-        (walk-named (name_of (tag_of (bytes_at c.before.before.before.before.before.before.before.before.before.before.before.before.before.args.src.now c.before.before.before.before.before.before.before.before.before.before.before.before.before.args.tape.now c.before.before.before.before.before.before.before.before.before.before.before.before.before.args.p))) c.before.before.before.before.before.before.before.before.before.before.before.before.before.requires.1.1 c.before.before.before.before.before.before.before.before.before.before.before.before.before.requires.1.0 (rw v at c.before.before.before.before.before.before.if1.false) (rw v at c.named-child.ensures), subst Within (sym d) (tags-within c.before.before.before.before.before.before.before.before.before.before.before.before.before.args.s _), c.before.if4.false),
+        omega (arith, c.before.before.before.before.before.before.before.before.before.before.before.requires.0, c.before.before.before.before.before.before.before.before.before.before.before.requires.1.0),
+        (walk-kids c.before.before.before.before.before.before.before.before.before.before.before.requires.1.1 c.before.before.before.before.before.before.before.before.before.before.before.requires.1.0 (rw v at c.before.before.before.before.if1.false) (rw v at c.child.ensures), subst Within (sym d) (tags-within c.before.before.before.before.before.before.before.before.before.before.before.args.s _), c.before.if3.false),
       )
 
-  measure-node-returns-5 : measure-node-lts.Need-returns-5 (measure-node-calls t) (measure-node-at t) measure-node.Post
-  measure-node-returns-5 c K q s e f h =
-      let v = c.before.before.before.before.before.before.before.before.before.view-at.ensures in
-      let i = measured-inside K q c.before.before.before.before.before.before.before.before.before.before.before.before.before.before.args.depth c.before.before.before.before.before.before.before.before.before.before.before.before.before.before.args.s h c.before.before.before.before.before.before.before.before.before.before.before.before.before.before.requires.1.0 (rw v at c.before.before.before.before.before.if2.false) in
+  measure-node-returns-4 : measure-node-lts.Need-returns-4 (measure-node-calls t) (measure-node-at t) measure-node.Post
+  measure-node-returns-4 c K q s e f h =
+      let v = c.before.before.before.before.before.before.before.view-at.ensures in
+      let i = measured-inside K q c.before.before.before.before.before.before.before.before.before.before.before.before.args.depth c.before.before.before.before.before.before.before.before.before.before.before.before.args.s h c.before.before.before.before.before.before.before.before.before.before.before.before.requires.1.0 (rw v at c.before.before.before.before.before.if1.false) in
       let d = rw v at c.before.before.before.add-tags.ensures in
-      let b = rw v at c.before.named-child.ensures in
+      let b = rw v at c.before.child.ensures in
       let r = rw v at c.measure-content.ensures in
-      let l : 0 < c.before.before.before.before.before.before.before.before.before.before.before.before.before.before.args.depth = omega arith in
-      r K (q ▸ name_of (tag_of (bytes_at c.before.before.before.before.before.before.before.before.before.before.before.before.before.before.args.src.now c.before.before.before.before.before.before.before.before.before.before.before.before.before.before.args.tape.now c.before.before.before.before.before.before.before.before.before.before.before.before.before.before.args.p))) s (sym (b K q s e)) i.kids i.tape ∙ sym (i.deep l ∙ onward-on _ d c.before.before.if4.false)
+      let l : 0 < c.before.before.before.before.before.before.before.before.before.before.before.before.args.depth = omega arith in
+      r K (q ▸ bytes_at c.before.before.before.before.before.before.before.before.before.before.before.before.args.src.now c.before.before.before.before.before.before.before.before.before.before.before.before.args.tape.now c.before.before.before.before.before.before.before.before.before.before.before.before.args.p) s (sym (b K q s e)) i.kids i.tape ∙ sym (i.deep l ∙ onward-on _ d c.before.before.if3.false)
 
 pub +measure-content-measure-node-spec : {M : Type 1} → statement M
 +measure-content-measure-node-spec =
     close μ-measure-content μ-measure-node
     (λ t. measure-content-lts.spec (measure-content-calls t) (measure-content-at t) measure-content.Post measure-content-Inv-loop measure-content-μ-loop (measure-content-loop-holds t) (measure-content-measure-node-requires t) (measure-content-returns t) (measure-content-view-at-requires t) (measure-content-loop-less t) (measure-content-loop-again t) (measure-content-returns-2 t))
-    (λ t. measure-node-lts.spec (measure-node-calls t) (measure-node-at t) measure-node.Post (measure-node-view-at-requires t) (measure-node-add-text-requires t) (measure-node-returns t) (measure-node-over-requires t) (measure-node-returns-2 t) (measure-node-over-requires-2 t) (measure-node-returns-3 t) (measure-node-add-tags-requires t) (measure-node-returns-4 t) (measure-node-named-child-requires t) (measure-node-sub-d t) (measure-node-add-measure-content t) (measure-node-measure-content-requires t) (measure-node-returns-5 t))
+    (λ t. measure-node-lts.spec (measure-node-calls t) (measure-node-at t) measure-node.Post (measure-node-view-at-requires t) (measure-node-add-text-requires t) (measure-node-returns t) (measure-node-over-requires t) (measure-node-returns-2 t) (measure-node-add-tags-requires t) (measure-node-returns-3 t) (measure-node-child-requires t) (measure-node-sub-d t) (measure-node-add-measure-content t) (measure-node-measure-content-requires t) (measure-node-returns-4 t))

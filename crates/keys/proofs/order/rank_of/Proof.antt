@@ -4,7 +4,7 @@ use native.Mathlib.Omega.{arith}
 use mathlib.Core.Path.{refl}
 use Rattle.xml.specs.Bytes.{Bytes}
 use Rattle.xml.specs.Forest.{Forest}
-use Rattle.xml.specs.Tape.{next_at, Tagged, Tape}
+use Rattle.xml.specs.Tape.{next_at, Node, Tape}
 use Rattle.keys.specs.Version.{label}
 use Rattle.keys.specs.Placed.{OfPlace}
 use Rattle.keys.specs.Entries.{Lists}
@@ -14,7 +14,7 @@ use Rattle.keys.proofs.order.rank_of.Tie as tie
 
 abbrev invariant-loop : tie.invariant-loop
 invariant-loop text table n place src tape order k p low₀ high₀ low high = (low ≤ high) × (high ≤ k)
-    × OfPlace text table n place (λ K q. (m : Bytes) (i : Forest) → Tagged src tape p m → Tape src tape (p + 1) (next_at tape p) i
+    × OfPlace text table n place (λ K q. (m : Bytes) (i : Forest) → Node src tape p 1 m → Tape src tape (p + 1) (next_at tape p) i
     → (lo hi : ℕ) (s : Forest) → Lists src tape lo hi order 0 k s → Ranking K q src tape lo hi order k (label K q m i) s low high)
 
 abbrev decreases-loop : tie.decreases-loop
@@ -33,7 +33,7 @@ element-copy-out-q : tie.Need-element-copy-out-q invariant-loop decreases-loop
 element-copy-out-q c = omega (arith, c.probe.ensures.1, c.before.before.loop.invariant.1, c.before.before.before.before.before.before.before.requires.0)
 
 cast-q : tie.Need-overflow-cast-q invariant-loop decreases-loop
-cast-q c = omega (arith, (c.before.before.before.before.before.before.before.before.requires.2 c.before.probe.result (omega (arith, c.before.probe.ensures.1, c.before.before.before.loop.invariant.1))).node.node.held)
+cast-q c = omega (arith, (c.before.before.before.before.before.before.before.before.requires.2 c.before.probe.result (omega (arith, c.before.probe.ensures.1, c.before.before.before.loop.invariant.1))).node.held)
 
 compare-labels-requires : tie.Need-compare-labels-requires invariant-loop decreases-loop
 compare-labels-requires c κs = (c.before.before.before.before.before.before.before.before.requires.2 c.before.probe.result (omega (arith, c.before.probe.ensures.1, c.before.before.before.loop.invariant.1)), c.before.before.before.before.before.before.before.before.requires.3)

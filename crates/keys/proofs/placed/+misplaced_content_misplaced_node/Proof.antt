@@ -1,16 +1,15 @@
 -- `keys::placed::misplaced_content` and `misplaced_node` meet their contracts: the loop's answer is that of the nodes to come, and a node's is
--- that of its element's tag and of what it holds. The nodes left fall. Assumes nothing.
+-- that of its element's name and of what it holds. The nodes left fall. Assumes nothing.
 use native.Mathlib.Omega.{arith}
 use mathlib.Core.Path.{ap, sym, ◌∙◌}
 use mathlib.Core.Bool.{not}
 use borrow.Author.Tests.{not-true, not-false}
-use Rattle.xml.specs.Read.{unescape, tag_of}
+use Rattle.xml.specs.Read.{unescape}
 use Rattle.xml.specs.Tape.{next_at}
-use Rattle.xml.specs.TapeLaws.{bytes_at, text-node, inner-node, open-tag}
-use Rattle.keys.specs.TableLaws.{table-rules}
+use Rattle.xml.specs.TapeLaws.{bytes_at, text-node, inner-node}
 use Rattle.keys.specs.Version.{◌▸◌}
 use Rattle.keys.specs.Walks.{Walk, OfNodes, walk-front, walk-node, walk-next, walk-kids, Going, going_start, going_more, going-found, going_done}
-use Rattle.keys.specs.Strays.{astray, astray-end, astray-under, astray-run, astray-other, astray-strange, astray-inside, astray-here, astray-past, strange-place}
+use Rattle.keys.specs.Strays.{astray, astray-end, astray-under, astray-run, astray-other, astray-strange, astray-inside, astray-here, astray-past}
 use Prim.Native.Nat.{ℕ, ◌+◌, ◌*◌, ◌-◌, ◌<◌, ◌≤◌}
 use borrow.Fn.Kinds.{In}
 use borrow.Fn.PlainCycle.{Measures, is, falls, and}
@@ -130,12 +129,7 @@ module _ (t : ℕ) where
   misplaced-node-child-requires c κs = rw c.before.before.before.before.view-at.ensures (c.before.before.before.before.before.before.before.before.before.requires.1.1.placed, omega arith, (walk-front c.before.before.before.before.before.before.before.before.before.requires.1.1 c.before.before.before.before.before.before.before.before.before.requires.1.0).within)
 
   misplaced-node-is-strange-requires : misplaced-node-lts.Need-is-strange-requires (misplaced-node-calls t) (misplaced-node-at t) misplaced-node.Post
-  misplaced-node-is-strange-requires c κs =
-      let v = c.before.before.before.before.before.view-at.ensures in
-      let k = rw v at c.before.if3.false in
-      let w = c.before.before.before.before.before.before.before.before.before.before.requires.1.1 in
-      let l = c.before.before.before.before.before.before.before.before.before.before.requires.1.0 in
-      rw v (w.placed.table.held, omega arith, (walk-front w l).within, omega arith, open-tag w.valid.tape l k)
+  misplaced-node-is-strange-requires c κs = rw c.before.before.before.before.before.view-at.ensures (c.before.before.before.before.before.before.before.before.before.before.requires.1.1.placed.table.held, omega arith, (walk-front c.before.before.before.before.before.before.before.before.before.before.requires.1.1 c.before.before.before.before.before.before.before.before.before.before.requires.1.0).within)
 
   misplaced-node-returns-4 : misplaced-node-lts.Need-returns-4 (misplaced-node-calls t) (misplaced-node-at t) misplaced-node.Post
   misplaced-node-returns-4 c K q s e f h =
@@ -160,10 +154,9 @@ module _ (t : ℕ) where
       let d = rw v at c.before.before.before.child.ensures in
       let o = rw v at c.before.before.is-strange.ensures in
       let r = rw v at c.misplaced-content.ensures in
-      let g = sym (o c.before.before.before.before.before.before.before.before.before.before.before.before.before.args.text.now K q s e (sym (d K q s e))) ∙ c.before.if4.false in
-      let n = q ▸ tag_of (bytes_at c.before.before.before.before.before.before.before.before.before.before.before.before.before.args.src.now c.before.before.before.before.before.before.before.before.before.before.before.before.before.args.tape.now c.before.before.before.before.before.before.before.before.before.before.before.before.before.args.p) in
-      let u = open-tag h c.before.before.before.before.before.before.before.before.before.before.before.before.before.requires.1.0 k in
-      r K n s (strange-place K q u (table-rules s) g ∙ sym (d K q s e)) i.kids i.tape ∙ sym (astray-inside K q (i.element k) g)
+      let n = q ▸ bytes_at c.before.before.before.before.before.before.before.before.before.before.before.before.before.args.src.now c.before.before.before.before.before.before.before.before.before.before.before.before.before.args.tape.now c.before.before.before.before.before.before.before.before.before.before.before.before.before.args.p in
+      r K n s (sym (d K q s e)) i.kids i.tape
+      ∙ sym (astray-inside K q (i.element k) (sym (o c.before.before.before.before.before.before.before.before.before.before.before.before.before.args.text.now K q s e (sym (d K q s e))) ∙ c.before.if4.false))
 
 pub +misplaced-content-misplaced-node-spec : {M : Type 1} → statement M
 +misplaced-content-misplaced-node-spec =

@@ -1,17 +1,12 @@
 -- `legality::bounds::bound`, `bound_inside` and `bound_node` meet their contracts: the nodes inside one are fewer. The loop's invariant
 -- (`Gone`): what a version has of the nodes passed. Assumes nothing.
 use native.Mathlib.Omega.{arith}
-use mathlib.Core.Path.{◌≡◌, ap, sym, ◌∙◌}
+use mathlib.Core.Path.{◌≡◌, sym, ◌∙◌, ap}
 use borrow.Author.Rules.{rules}
-use Rattle.xml.specs.Read.{tag_of}
-use Rattle.xml.specs.SameTapes.{tape-at}
-use Rattle.xml.specs.Tape.{head_at, next_at, start_in, end_in}
-use Rattle.xml.specs.TapeLaws.{Front, OneRun, bytes_at, front, one-run, tape-le}
+use Rattle.xml.specs.Tape.{head_at, next_at}
+use Rattle.xml.specs.TapeLaws.{Front, OneRun, front, one-run, tape-le}
 use Rattle.versions.specs.Rendered.{valid-inside}
-use Rattle.legality.specs.Going.{text-short}
-use Rattle.legality.specs.Measured.{raw-most}
-use Rattle.legality.specs.TagAt.{TagAt, node-tag, counts_of}
-use Rattle.legality.specs.declared.tags.Counts.{Counts}
+use Rattle.legality.specs.Going.{text-short, name-length}
 use Rattle.legality.specs.Bounds.{Most, Gone, stopped-bounds, packed-bounds, text-most, run-most, element-most, timed-most, node-held, gone-start, gone-front, gone-next, gone-plain, gone-content, gone-done}
 use Prim.Native.Nat.{ℕ, ◌+◌, ◌*◌, ◌-◌, ◌/◌, ◌%◌, ◌<◌}
 use borrow.Fn.Kinds.{In}
@@ -30,7 +25,6 @@ use Rattle.legality.proofs.bounds.is_content.Reads as is-content-reads
 use Rattle.legality.proofs.bounds.larger.Reads as larger-reads
 use Rattle.legality.proofs.bounds.nodes_in.Reads as nodes-in-reads
 use Rattle.legality.proofs.bounds.packed.Reads as packed-reads
-use Rattle.legality.proofs.tags.tag_counts.Reads as tag-counts-reads
 use Rattle.xml.proofs.compare.text_len.Reads as text-len-reads
 use Rattle.xml.proofs.tape.is_run.Reads as is-run-reads
 use Rattle.xml.proofs.tape.view_at.Reads as view-at-reads
@@ -77,7 +71,7 @@ abbrev bound-inside-calls : ℕ → bound-inside-lts.Claims
 bound-inside-calls t = (is-run-reads.Asked, is-run-reads.Learnt, view-at-reads.Asked, view-at-reads.Learnt, text-len-reads.Asked, text-len-reads.Learnt, packed-reads.Asked, packed-reads.Learnt, bound-below t, bound.Post)
 
 abbrev bound-node-calls : ℕ → bound-node-lts.Claims
-bound-node-calls t = (view-at-reads.Asked, view-at-reads.Learnt, text-len-reads.Asked, text-len-reads.Learnt, packed-reads.Asked, packed-reads.Learnt, bound-inside-below t, bound-inside.Post, tag-counts-reads.Asked, tag-counts-reads.Learnt, nodes-in-reads.Asked, nodes-in-reads.Learnt, bytes-in-reads.Asked, bytes-in-reads.Learnt)
+bound-node-calls t = (view-at-reads.Asked, view-at-reads.Learnt, text-len-reads.Asked, text-len-reads.Learnt, packed-reads.Asked, packed-reads.Learnt, bound-inside-below t, bound-inside.Post, nodes-in-reads.Asked, nodes-in-reads.Learnt, bytes-in-reads.Asked, bytes-in-reads.Learnt)
 
 module _ (t : ℕ) where
   bound-loop-holds : bound-lts.Need-loop-init (bound-calls t) (bound_at t) bound.Post bound-Inv-loop bound-μ-loop
@@ -182,16 +176,9 @@ module _ (t : ℕ) where
   element-kind : (c : bound-node-lts.Else2 (bound-node-calls t) (bound-node-at t) bound-node.Post) → head_at c.before.before.before.before.before.before.before.args.tape.now c.before.before.before.before.before.before.before.args.p % 4 ≡ 1
   element-kind c = omega (arith, (node-front c.before.before.before.before.before.before.before).kind, rw c.before.before.before.before.view-at.ensures at c.before.before.if1.false, rw c.before.before.before.before.view-at.ensures at c.if2.false)
 
-  element-tag : (c : bound-node-lts.Else2 (bound-node-calls t) (bound-node-at t) bound-node.Post) → let a = c.before.before.before.before.before.before.before.args in TagAt a.src.now (start_in (head_at a.tape.now a.p)) (end_in (head_at a.tape.now a.p))
-  element-tag c = node-tag (tape-at c.before.before.before.before.before.before.before.args.p c.before.before.before.before.before.before.before.requires.1.1.tape (omega arith) c.before.before.before.before.before.before.before.requires.1.0) (element-kind c)
-
-  -- what it counts for
-  element-counts : (c : bound-node-lts.After-tag-counts (bound-node-calls t) (bound-node-at t) bound-node.Post) → let a = c.before.before.before.before.before.before.before.before.before.args in c.tag-counts.result ≡ counts_of (tag_of (bytes_at a.src.now a.tape.now a.p))
-  element-counts c = rw c.before.before.before.before.before.before.view-at.ensures at c.tag-counts.ensures
-
   -- what is inside it
-  element-inside : (c : bound-node-lts.Else5 (bound-node-calls t) (bound-node-at t) bound-node.Post) → let a = c.before.before.before.before.before.before.before.before.before.before.before.before.before.args in Most a.src.now a.tape.now (a.p + 1) (next_at a.tape.now a.p) (a.left - 1) (c.before.bound-inside2.result / 4294967296) (c.before.bound-inside2.result % 4294967296)
-  element-inside c = (rw c.before.before.before.before.before.before.before.before.before.before.view-at.ensures at c.before.bound-inside2.ensures) c.if5.false
+  element-inside : (c : bound-node-lts.Else4 (bound-node-calls t) (bound-node-at t) bound-node.Post) → Most c.before.before.before.before.before.before.before.before.before.before.args.src.now c.before.before.before.before.before.before.before.before.before.before.args.tape.now (c.before.before.before.before.before.before.before.before.before.before.args.p + 1) (next_at c.before.before.before.before.before.before.before.before.before.before.args.tape.now c.before.before.before.before.before.before.before.before.before.before.args.p) (c.before.before.before.before.before.before.before.before.before.before.args.left - 1) (c.before.bound-inside2.result / 4294967296) (c.before.bound-inside2.result % 4294967296)
+  element-inside c = (rw c.before.before.before.before.before.before.before.view-at.ensures at c.before.bound-inside2.ensures) c.if4.false
 
   bound-node-view-at-requires : bound-node-lts.Need-view-at-requires (bound-node-calls t) (bound-node-at t) bound-node.Post
   bound-node-view-at-requires c κs = (node-front c.before.before).held
@@ -220,50 +207,51 @@ module _ (t : ℕ) where
   bound-node-returns-3 : bound-node-lts.Need-returns-3 (bound-node-calls t) (bound-node-at t) bound-node.Post
   bound-node-returns-3 c = stopped-bounds (omega arith)
 
-  bound-node-tag-counts-requires : bound-node-lts.Need-tag-counts-requires (bound-node-calls t) (bound-node-at t) bound-node.Post
-  bound-node-tag-counts-requires c κs = rw c.before.before.before.before.before.view-at.ensures (element-tag c.before)
+  bound-node-add-bound-inside-2 : bound-node-lts.Need-overflow-add-bound-inside-2 (bound-node-calls t) (bound-node-at t) bound-node.Post
+  bound-node-add-bound-inside-2 c = omega (arith, (node-front c.before.before.before.before.before.before.before.before).held)
+
+  bound-node-sub-bound-inside : bound-node-lts.Need-overflow-sub-bound-inside (bound-node-calls t) (bound-node-at t) bound-node.Post
+  bound-node-sub-bound-inside c = omega (arith, c.if3.false)
+
+  bound-node-bound-inside-requires-2 : bound-node-lts.Need-bound-inside-requires-2 (bound-node-calls t) (bound-node-at t) bound-node.Post
+  bound-node-bound-inside-requires-2 c κs = rw c.before.before.before.before.before.view-at.ensures (omega (arith, c.before.before.before.before.before.before.before.before.requires.0, (node-front c.before.before.before.before.before.before.before.before).forward), (valid-inside c.before.before.before.before.before.before.before.before.requires.1.1 c.before.before.before.before.before.before.before.before.requires.1.0 (rw c.before.before.before.before.before.view-at.ensures at c.before.before.before.if1.false), c.before.before.before.before.before.before.before.before.requires.1.2))
 
   bound-node-returns-4 : bound-node-lts.Need-returns-4 (bound-node-calls t) (bound-node-at t) bound-node.Post
   bound-node-returns-4 c = stopped-bounds (omega arith)
 
-  bound-node-add-bound-inside-2 : bound-node-lts.Need-overflow-add-bound-inside-2 (bound-node-calls t) (bound-node-at t) bound-node.Post
-  bound-node-add-bound-inside-2 c = omega (arith, (node-front c.before.before.before.before.before.before.before.before.before.before.before).held)
+  bound-node-sub-name : bound-node-lts.Need-overflow-sub-name (bound-node-calls t) (bound-node-at t) bound-node.Post
+  bound-node-sub-name c = rw c.before.before.before.before.before.before.before.before.view-at.ensures (omega arith)
 
-  bound-node-sub-bound-inside : bound-node-lts.Need-overflow-sub-bound-inside (bound-node-calls t) (bound-node-at t) bound-node.Post
-  bound-node-sub-bound-inside c = omega (arith, c.before.before.before.if3.false)
-
-  bound-node-bound-inside-requires-2 : bound-node-lts.Need-bound-inside-requires-2 (bound-node-calls t) (bound-node-at t) bound-node.Post
-  bound-node-bound-inside-requires-2 c κs = rw c.before.before.before.before.before.before.before.before.view-at.ensures (omega (arith, c.before.before.before.before.before.before.before.before.before.before.before.requires.0, (node-front c.before.before.before.before.before.before.before.before.before.before.before).forward), (valid-inside c.before.before.before.before.before.before.before.before.before.before.before.requires.1.1 c.before.before.before.before.before.before.before.before.before.before.before.requires.1.0 (rw c.before.before.before.before.before.before.before.before.view-at.ensures at c.before.before.before.before.before.before.if1.false), c.before.before.before.before.before.before.before.before.before.before.before.requires.1.2))
-
-  bound-node-returns-5 : bound-node-lts.Need-returns-5 (bound-node-calls t) (bound-node-at t) bound-node.Post
-  bound-node-returns-5 c = stopped-bounds (omega arith)
-
-  bound-node-add-packed : bound-node-lts.Need-overflow-add-packed (bound-node-calls t) (bound-node-at t) bound-node.Post
-  bound-node-add-packed c = omega (arith, c.before.before.before.if4.false)
+  bound-node-cast-name : bound-node-lts.Need-overflow-cast-name (bound-node-calls t) (bound-node-at t) bound-node.Post
+  bound-node-cast-name c = rw c.before.before.before.before.before.before.before.before.view-at.ensures (omega arith)
 
   bound-node-nodes-in-requires : bound-node-lts.Need-nodes-in-requires (bound-node-calls t) (bound-node-at t) bound-node.Post
   bound-node-nodes-in-requires c κs = search rules
 
+  bound-node-add-packed : bound-node-lts.Need-overflow-add-packed (bound-node-calls t) (bound-node-at t) bound-node.Post
+  bound-node-add-packed c = let m = element-inside c.before.before in omega (arith, c.nodes-in.ensures, m.few, c.before.before.before.before.before.before.before.before.before.before.before.before.requires.1.2)
+
+  bound-node-mul-packed : bound-node-lts.Need-overflow-mul-packed (bound-node-calls t) (bound-node-at t) bound-node.Post
+  bound-node-mul-packed c = rw c.before.before.before.before.before.before.before.before.before.view-at.ensures (omega arith)
+
   bound-node-add-packed-2 : bound-node-lts.Need-overflow-add-packed-2 (bound-node-calls t) (bound-node-at t) bound-node.Post
-  bound-node-add-packed-2 c = omega (arith, c.nodes-in.ensures, (element-inside c.before.before).few, c.before.before.before.before.if4.false, c.before.before.before.before.before.before.before.before.before.before.before.before.before.before.before.requires.1.2)
+  bound-node-add-packed-2 c = rw c.before.before.before.before.before.before.before.before.before.view-at.ensures (omega arith)
 
   bound-node-bytes-in-requires : bound-node-lts.Need-bytes-in-requires (bound-node-calls t) (bound-node-at t) bound-node.Post
   bound-node-bytes-in-requires c κs = search rules
 
   bound-node-add-packed-3 : bound-node-lts.Need-overflow-add-packed-3 (bound-node-calls t) (bound-node-at t) bound-node.Post
-  bound-node-add-packed-3 c = omega (arith, c.before.bytes-in.ensures, ap (λ (z : Counts). z.bytes) (element-counts c.before.before.before.before.before.before.before.before), (raw-most c.before.before.before.before.before.before.before.before.before.before.before.before.before.before.before.before.before.requires.1.1.tape c.before.before.before.before.before.before.before.before.before.before.before.before.before.before.before.before.before.requires.1.0 (element-kind c.before.before.before.before.before.before.before.before.before.before)).1, (element-inside c.before.before.before.before).short, c.before.before.before.before.before.before.before.before.before.before.before.before.before.before.before.before.before.requires.1.2)
+  bound-node-add-packed-3 c = let m = element-inside c.before.before.before in rw c.before.before.before.before.before.before.before.before.before.before.view-at.ensures (omega (arith, c.bytes-in.ensures, m.short, c.before.before.before.before.before.before.before.before.before.before.before.before.before.requires.1.2, (node-front c.before.before.before.before.before.before.before.before.before.before.before.before.before).forward))
 
   bound-node-packed-requires-2 : bound-node-lts.Need-packed-requires-2 (bound-node-calls t) (bound-node-at t) bound-node.Post
   bound-node-packed-requires-2 c κs = search rules
 
-  bound-node-returns-6 : bound-node-lts.Need-returns-6 (bound-node-calls t) (bound-node-at t) bound-node.Post
-  bound-node-returns-6 c =
-      let n = ap (λ (z : Counts). z.attributes) (element-counts c.before.before.before.before.before.before.before.before.before) in
-      packed-bounds (element-most c.before.before.before.before.before.before.before.before.before.before.before.before.before.before.before.before.before.before.requires.1.1 c.before.before.before.before.before.before.before.before.before.before.before.before.before.before.before.before.before.before.requires.1.0 (element-kind c.before.before.before.before.before.before.before.before.before.before.before) c.before.before.before.before.before.before.before.before.before.before.if3.false (omega (arith, n, c.before.before.before.before.before.before.before.if4.false)) (element-inside c.before.before.before.before.before) (omega (arith, n, c.before.before.before.nodes-in.ensures)) (omega (arith, ap (λ (z : Counts). z.bytes) (element-counts c.before.before.before.before.before.before.before.before.before), c.before.before.bytes-in.ensures))) c.before.before.before.before.before.before.before.before.before.before.before.before.before.before.before.before.before.before.requires.1.2 c.packed2.ensures
+  bound-node-returns-5 : bound-node-lts.Need-returns-5 (bound-node-calls t) (bound-node-at t) bound-node.Post
+  bound-node-returns-5 c = packed-bounds (element-most (node-front c.before.before.before.before.before.before.before.before.before.before.before.before.before.before) (element-kind c.before.before.before.before.before.before.before) c.before.before.before.before.before.before.if3.false (element-inside c.before.before.before.before) (ap (λ (x : ℕ). 1 + x) c.before.before.nodes-in.ensures) (rw c.before.before.before.before.before.before.before.before.before.before.before.view-at.ensures (omega (arith, c.before.bytes-in.ensures, name-length (node-front c.before.before.before.before.before.before.before.before.before.before.before.before.before.before))))) c.before.before.before.before.before.before.before.before.before.before.before.before.before.before.requires.1.2 c.packed2.ensures
 
 pub +bound-bound-inside-bound-node-spec : {M : Type 1} → statement M
 +bound-bound-inside-bound-node-spec =
     close μ-bound μ-bound-inside μ-bound-node
     (λ t. bound-lts.spec (bound-calls t) (bound_at t) bound.Post bound-Inv-loop bound-μ-loop (bound-loop-holds t) (bound-view-at-requires t) (bound-bound-node-requires t) (bound-returns t) (bound-is-content-requires t) (bound-nodes-in-requires t) (bound-larger-requires t) (bound-bytes-in-requires t) (bound-larger-requires-2 t) (bound-loop-less t) (bound-loop-again t) (bound-nodes-in-requires-2 t) (bound-add-nodes t) (bound-bytes-in-requires-2 t) (bound-add-bytes t) (bound-returns-2 t) (bound-loop-less-2 t) (bound-loop-again-2 t) (bound-add-packed t) (bound-add-packed-2 t) (bound-packed-requires t) (bound-returns-3 t))
     (λ t. bound-inside-lts.spec (bound-inside-calls t) (bound-inside-at t) bound-inside.Post (bound-inside-is-run-requires t) (bound-inside-view-at-requires t) (bound-inside-text-len-requires t) (bound-inside-cast-packed t) (bound-inside-packed-requires t) (bound-inside-returns t) (bound-inside-bound-requires t) (bound-inside-returns-2 t))
-    (λ t. bound-node-lts.spec (bound-node-calls t) (bound-node-at t) bound-node.Post (bound-node-view-at-requires t) (bound-node-text-len-requires t) (bound-node-cast-packed t) (bound-node-packed-requires t) (bound-node-returns t) (bound-node-add-bound-inside t) (bound-node-bound-inside-requires t) (bound-node-returns-2 t) (bound-node-returns-3 t) (bound-node-tag-counts-requires t) (bound-node-returns-4 t) (bound-node-add-bound-inside-2 t) (bound-node-sub-bound-inside t) (bound-node-bound-inside-requires-2 t) (bound-node-returns-5 t) (bound-node-add-packed t) (bound-node-nodes-in-requires t) (bound-node-add-packed-2 t) (bound-node-bytes-in-requires t) (bound-node-add-packed-3 t) (bound-node-packed-requires-2 t) (bound-node-returns-6 t))
+    (λ t. bound-node-lts.spec (bound-node-calls t) (bound-node-at t) bound-node.Post (bound-node-view-at-requires t) (bound-node-text-len-requires t) (bound-node-cast-packed t) (bound-node-packed-requires t) (bound-node-returns t) (bound-node-add-bound-inside t) (bound-node-bound-inside-requires t) (bound-node-returns-2 t) (bound-node-returns-3 t) (bound-node-add-bound-inside-2 t) (bound-node-sub-bound-inside t) (bound-node-bound-inside-requires-2 t) (bound-node-returns-4 t) (bound-node-sub-name t) (bound-node-cast-name t) (bound-node-nodes-in-requires t) (bound-node-add-packed t) (bound-node-mul-packed t) (bound-node-add-packed-2 t) (bound-node-bytes-in-requires t) (bound-node-add-packed-3 t) (bound-node-packed-requires-2 t) (bound-node-returns-5 t))

@@ -1,4 +1,4 @@
--- `legality::front::is_untimed` meets its contract. The loop's invariant: no node passed is a `T` or named so. Assumes nothing.
+-- `archive::front::is_untimed` meets its contract. The loop's invariant: no node passed is a `T` or named so. Assumes nothing.
 use Prim.Native.Nat.{ℕ, ◌-◌, ◌≤◌, ◌<◌}
 use native.Mathlib.Omega.{arith}
 use mathlib.Core.Path.{◌≡◌, sym, ◌∙◌}
@@ -6,7 +6,6 @@ use mathlib.Core.Bool.{false}
 use Rattle.xml.specs.TapeLaws.{tape-le}
 use Rattle.xml.specs.SameTapes.{At, tape-at}
 use Rattle.versions.specs.Untimed.{timed_at, untimed-all, untimed-not, untimed-more}
-use Rattle.legality.specs.TagAt.{node-tag}
 use Rattle.legality.proofs.front.is_untimed.Statement.{statement}
 use Rattle.legality.proofs.front.is_untimed.Tie as tie
 
@@ -26,7 +25,7 @@ view-at-requires : tie.Need-view-at-requires invariant-loop decreases-loop
 view-at-requires c κs = (here (c)).held
 
 is-timed-requires : tie.Need-is-timed-requires invariant-loop decreases-loop
-is-timed-requires c κs = rw c.view-at.ensures (node-tag (here c.before))
+is-timed-requires c κs = rw c.view-at.ensures (omega arith, (here c.before).within)
 
 returns : tie.Need-returns invariant-loop decreases-loop
 returns c f t = sym (untimed-not c.before.before.before.before.loop.i t c.before.before.before.before.loop.invariant.0 c.before.before.before.loop-test.true (sym (rw c.before.before.view-at.ensures at c.before.is-timed.ensures) ∙ c.if1.true))

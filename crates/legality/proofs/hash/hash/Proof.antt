@@ -30,7 +30,7 @@ view-at-requires : tie.Need-view-at-requires invariant-loop decreases-loop
 view-at-requires c κs = (here (c)).held
 
 hash-node-requires : tie.Need-hash-node-requires invariant-loop decreases-loop
-hash-node-requires c κs = let n = here c.before in rw c.view-at.ensures (omega arith, n.within, omega arith, c.before.before.loop.invariant.2, n.tagged)
+hash-node-requires c κs = rw c.view-at.ensures (omega arith, (here c.before).within, c.before.before.loop.invariant.2)
 
 add-i : tie.Need-overflow-add-i invariant-loop decreases-loop
 add-i c = omega (arith, (here c.before.before).held)

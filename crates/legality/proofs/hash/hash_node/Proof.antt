@@ -1,13 +1,11 @@
 -- `legality::hash::hash_node` meets its contract: a law for each kind. Assumes nothing.
 use Prim.Native.Nat.{ℕ}
 use native.Mathlib.Omega.{arith}
-use mathlib.Core.Path.{sym, ◌∙◌, ap, ap₂}
+use mathlib.Core.Path.{sym, ◌∙◌, ap}
 use lib.Seq.{slice}
 use borrow.Author.Rules.{rules}
 use Rattle.xml.specs.Read.{unescape}
-use Rattle.xml.proofs.PartTags.{lent-tag}
-use Rattle.xml.proofs.Tags.{part-is}
-use Rattle.versions.specs.Hashes.{folded, folded_tag, mixed-small, node-run, node-element, node-timed}
+use Rattle.versions.specs.Hashes.{folded, mixed-small, node-run, node-element, node-timed}
 use Rattle.legality.proofs.hash.hash_node.Statement.{statement}
 use Rattle.legality.proofs.hash.hash_node.Tie as tie
 
@@ -20,29 +18,11 @@ fold-run-requires c κs = rw c.mix.ensures (omega arith, omega arith, mixed-smal
 returns : tie.Need-returns
 returns c = c.fold-run.ensures ∙ ap (λ (x : ℕ). folded x (unescape 0 (slice c.before.before.before.before.args.a c.before.before.before.before.args.e c.before.before.before.before.args.src.now))) c.before.mix.ensures ∙ sym (node-run _ _ _ c.before.before.if1.true)
 
-sub-fold-tag : tie.Need-overflow-sub-fold-tag
-sub-fold-tag c = search rules
-
-part-fold-tag-start : tie.Need-slice-bounds-fold-tag-start
-part-fold-tag-start c = search rules
-
-part-fold-tag-end : tie.Need-slice-bounds-fold-tag-end
-part-fold-tag-end c = search rules
-
 mix-requires-2 : tie.Need-mix-requires-2
 mix-requires-2 c κs = search rules
 
-fold-tag-requires : tie.Need-fold-tag-requires
-fold-tag-requires c κs =
-    let a = c.before.before.before.before.before.args in
-    let h = c.before.before.before.before.before.requires in
-    let t = lent-tag a.src.now a.a a.e h.0 h.1 (h.4 c.before.before.if2.true) h.2 in
-    (t.0, t.1, rw c.mix2.ensures (mixed-small _ 1))
-
 returns-2 : tie.Need-returns-2
-returns-2 c =
-    let a = c.before.before.before.before.before.before.args in
-    c.fold-tag.ensures ∙ ap₂ folded_tag c.before.mix2.ensures (part-is a.a a.e a.src.now c.before.before.before.before.before.before.requires.0) ∙ sym (node-element _ _ _ c.before.before.before.if2.true)
+returns-2 c = c.mix2.ensures ∙ sym (node-element _ _ _ c.before.if2.true)
 
 mix-requires-3 : tie.Need-mix-requires-3
 mix-requires-3 c κs = search rules
@@ -57,11 +37,7 @@ hash-node-spec =
     mix-requires
     fold-run-requires
     returns
-    sub-fold-tag
-    part-fold-tag-start
-    part-fold-tag-end
     mix-requires-2
-    fold-tag-requires
     returns-2
     mix-requires-3
     returns-3)

@@ -8,7 +8,7 @@ use borrow.Author.Tests.{not-true, not-false}
 use Rattle.keys.specs.KeyList.{key_names_at}
 use Rattle.keys.specs.Walks.{OfNodes}
 use Rattle.keys.specs.Labelled.{has_keys}
-use Rattle.keys.specs.LabelLaws.{key-room, key-within, key-named}
+use Rattle.keys.specs.LabelLaws.{key-room, key-within}
 use Rattle.versions.specs.LegalKeys.{keys_from, keys-start, keys-lack, keys-more, keys-done}
 use Rattle.legality.proofs.legal.has_keys.Statement.{statement}
 use Rattle.legality.proofs.legal.has_keys.Tie as tie
@@ -51,7 +51,7 @@ has-key-requires c κs =
     let a = c.before.before.before.before.before.before.before.before.requires.placed in
     let l : c.before.before.loop.j < length (key_names_at a.key_list a.path) = omega (arith, c.before.before.before.key-count.ensures c.before.before.before.before.before.before.before.before.args.text.now a.key_list a.path a.table a.place_is, c.before.loop-test.true) in
     let w = key-within a.table a.path _ a.place_is c.before.before.loop.j l in
-    (c.before.before.before.before.before.before.before.before.requires.valid, rw c.key-name.ensures (omega arith), rw c.key-name.ensures w, rw c.key-name.ensures (key-named a.table a.path _ a.place_is c.before.before.loop.j l))
+    (c.before.before.before.before.before.before.before.before.requires.valid, rw c.key-name.ensures (omega arith), rw c.key-name.ensures w)
 
 returns : tie.Need-returns invariant-loop decreases-loop
 returns c K p t e f h =

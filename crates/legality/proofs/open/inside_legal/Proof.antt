@@ -1,8 +1,8 @@
 -- `archive::open::inside_legal` meets its contract: one test after the other. Assumes nothing.
-use borrow.Author.Tests.{ltb-true, ltb-false}
+use native.Mathlib.Omega.{arith}
 use mathlib.Core.Path.{◌≡◌, sym, ◌∙◌, ap}
 use mathlib.Core.List.{[]}
-use Rattle.xml.specs.Forest.{Forest, nodes}
+use Rattle.xml.specs.Forest.{Forest}
 use Rattle.xml.specs.Tape.{Tape}
 use Rattle.xml.specs.SameTapes.{not-true, not-false}
 use Rattle.keys.specs.KeyList.{KeyList}
@@ -26,11 +26,11 @@ said : (c : tie.After-siblings-legal) (K : KeyList) → Table c.before.before.be
     → Tape c.before.before.before.before.before.before.before.before.args.src.now c.before.before.before.before.before.before.before.before.args.tape.now 1 c.before.before.before.before.before.before.before.before.args.hi k → c.siblings-legal.result ≡ siblings_legal K c.before.before.before.before.before.before.before.before.args.n [] (always c.before.before.before.before.before.before.before.before.args.n) k
 said c K t k x = c.siblings-legal.ensures K [] t (place-root K) k x ∙ ap (λ (z : Times). siblings_legal K c.before.before.before.before.before.before.before.before.args.n [] z k) (every c.before).listed-is
 
-has-many-requires : tie.Need-has-many-requires
-has-many-requires c κs = let h = c.before.before.before.before.requires in (h.1, h.2, h.5)
+count-nodes-requires : tie.Need-count-nodes-requires
+count-nodes-requires c κs = search rules
 
 returns : tie.Need-returns
-returns c K t k x = sym (inside-many K c.before.before.before.before.before.before.args.n k (ltb-true 1024 (nodes k) (sym (c.before.has-many.ensures k x) ∙ c.if1.true)))
+returns c K t k x = sym (inside-many K c.before.before.before.before.before.before.args.n k (omega (arith, c.before.count-nodes.ensures k x, c.if1.true)))
 
 up-to-requires : tie.Need-up-to-requires
 up-to-requires c κs = search rules
@@ -58,14 +58,14 @@ all-small-requires c κs =
 returns-3 : tie.Need-returns-3
 returns-3 c K t k x =
     c.all_small.ensures k x
-    ∙ sym (inside-rest K c.before.before.before.before.before.before.before.before.before.before.args.n k (ltb-false 1024 (nodes k) (sym (c.before.before.before.before.before.has-many.ensures k x) ∙ c.before.before.before.before.if1.false))
+    ∙ sym (inside-rest K c.before.before.before.before.before.before.before.before.before.before.args.n k (omega (arith, c.before.before.before.before.before.count-nodes.ensures k x, c.before.before.before.before.if1.false))
     (sym (said c.before.before K t k x) ∙ not-false _ c.before.if2.false))
 
 pub inside-legal-spec : {M : Type 1} → statement M
 inside-legal-spec =
     tie.close
     (tie.spec
-    has-many-requires
+    count-nodes-requires
     returns
     up-to-requires
     siblings-legal-requires

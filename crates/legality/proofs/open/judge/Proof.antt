@@ -1,10 +1,8 @@
 -- `archive::open::judge` meets its contract: a law for each answer (Opened). Assumes nothing.
-use mathlib.Core.Path.{◌≡◌, ap, ◌∙◌}
+use mathlib.Core.Path.{◌≡◌}
 use mathlib.Core.Bool.{true}
 use Rattle.xml.specs.Bytes.{same}
 use Rattle.xml.specs.Forest.{write}
-use Rattle.xml.specs.Read.{whole}
-use Rattle.xml.specs.TapeLaws.{tape-one}
 use Rattle.xml.specs.SameTapes.{not-true, not-false}
 use Rattle.legality.specs.Opened.{judged-misspelled, judged-illegal, judged-legal}
 use borrow.Author.Rules.{rules}
@@ -21,20 +19,14 @@ told c = let g = c.before.before.before.before.before.requires.1 in c.spelled.en
 returns : tie.Need-returns
 returns c = judged-misspelled c.before.before.before.before.before.before.requires.1 (told c.before) (not-true _ c.if1.true)
 
-most-nodes-requires : tie.Need-most-nodes-requires
-most-nodes-requires c κs = let g = c.before.before.before.before.before.before.requires.1 in (record { forest = g.forest; tape = g.tape }, g.short, g.few)
-
 legal-whole-requires : tie.Need-legal-whole-requires
-legal-whole-requires c κs =
-    let h = c.before.before.before.before.before.before.before.requires in
-    let g = h.1 in
-    (h.0, record { forest = g.forest; tape = g.tape }, g.few, λ f x. c.most-nodes.ensures true f (g.is ∙ ap whole (tape-one g.tape x)) x)
+legal-whole-requires c κs = search rules
 
 returns-2 : tie.Need-returns-2
-returns-2 c = judged-illegal c.before.before.before.before.before.before.before.before.before.requires.1 c.before.legal-whole.ensures c.if2.true
+returns-2 c = judged-illegal c.before.before.before.before.before.before.before.before.requires.1 c.before.legal-whole.ensures c.if2.true
 
 returns-3 : tie.Need-returns-3
-returns-3 c = judged-legal c.before.before.before.before.before.before.before.before.before.requires.1 (told c.before.before.before.before) c.before.legal-whole.ensures (not-false _ c.before.before.before.if1.false) c.if2.false
+returns-3 c = judged-legal c.before.before.before.before.before.before.before.before.requires.1 (told c.before.before.before) c.before.legal-whole.ensures (not-false _ c.before.before.if1.false) c.if2.false
 
 pub judge-spec : {M : Type 1} → statement M
-judge-spec = tie.close (tie.spec spelled-requires returns most-nodes-requires legal-whole-requires returns-2 returns-3)
+judge-spec = tie.close (tie.spec spelled-requires returns legal-whole-requires returns-2 returns-3)

@@ -1,15 +1,14 @@
 -- `archive::open::legal_whole` meets its contract: no outer `T`, an inside that is not legal, or a legal archive. Assumes nothing.
-use Prim.Native.Nat.{ℕ, ◌≤◌}
+use Prim.Native.Nat.{ℕ}
 use native.Mathlib.Omega.{arith}
-use mathlib.Core.Path.{◌≡◌, sym, ◌∙◌, ap, subst}
-use Rattle.xml.specs.Forest.{Forest, nodes}
+use mathlib.Core.Path.{◌≡◌, sym, ◌∙◌, ap}
+use Rattle.xml.specs.Forest.{Forest}
 use Rattle.xml.specs.Tape.{Tape}
-use Rattle.xml.specs.TapeLaws.{tape-one}
 use Rattle.xml.specs.SameTapes.{not-true, not-false}
 use Rattle.keys.specs.KeyList.{KeyList}
 use Rattle.keys.specs.Table.{Table}
 use Rattle.versions.specs.Walk.{inside_of}
-use Rattle.versions.specs.LegalWhole.{outer_of, inside_legal, inside-nodes, outer-of-most, outer-zero, outer-inside, inside-no, inside-yes}
+use Rattle.versions.specs.LegalWhole.{outer_of, inside_legal, outer-of-most, outer-zero, outer-inside, inside-no, inside-yes}
 use borrow.Author.Rules.{rules}
 use Rattle.legality.proofs.open.legal_whole.Statement.{statement}
 use Rattle.legality.proofs.open.legal_whole.Tie as tie
@@ -33,8 +32,7 @@ inside-legal-requires : tie.Need-inside-legal-requires
 inside-legal-requires c κs =
     let v = c.before.before.before.before.before.before.requires.1 in
     let e = c.before.outer-of.ensures v.forest v.tape in
-    let i = outer-inside v.tape (some c v.forest v.tape) in
-    (c.before.before.before.before.before.before.requires.0, record { forest = inside_of v.forest; tape = i }, c.before.before.before.before.before.before.requires.2, omega (arith, c.if1.false), omega (arith, e, outer-of-most v.forest), λ k x. omega (arith, ap nodes (tape-one i x), inside-nodes v.forest (some c v.forest v.tape), c.before.before.before.before.before.before.requires.3 v.forest v.tape))
+    (c.before.before.before.before.before.before.requires.0, record { forest = inside_of v.forest; tape = outer-inside v.tape (some c v.forest v.tape) }, c.before.before.before.before.before.before.requires.2, omega (arith, c.if1.false), omega (arith, e, outer-of-most v.forest))
 
 returns-2 : tie.Need-returns-2
 returns-2 c K t f x = sym (inside-no K f (some c.before.before f x) (sym (said c.before K t f x) ∙ not-true _ c.if2.true))

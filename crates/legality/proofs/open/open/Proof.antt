@@ -13,7 +13,7 @@ enum-known-hi : tie.Need-enum-known-hi
 enum-known-hi c = search rules
 
 judge-requires : tie.Need-judge-requires
-judge-requires c κs = (c.before.before.before.before.before.before.before.before.before.before.before.before.requires.0, opened-read _ _ c.before.before.hi.given.1 c.before.before.before.before.before.before.read.ensures c.before.before.before.before.before.before.before.before.before.before.before.before.requires.1)
+judge-requires c κs = (c.before.before.before.before.before.before.before.before.before.before.before.before.requires.0, opened-read _ _ _ c.before.before.hi.given.1 c.before.before.before.before.before.before.read.ensures c.before.before.before.before.before.before.before.before.before.before.before.before.requires.1)
 
 enum-known-p : tie.Need-enum-known-p
 enum-known-p c = search rules
@@ -31,13 +31,13 @@ same-length-2 : tie.Need-same-length-2
 same-length-2 c = search rules
 
 returns-2 : tie.Need-returns-2
-returns-2 c K t = broken-read K _ (opened-wrong _ _ c.before.p.given.1 c.before.before.before.before.before.read.ensures)
+returns-2 c K t = broken-read K _ (opened-wrong _ _ _ c.before.p.given.1 c.before.before.before.before.before.read.ensures)
 
 same-length-3 : tie.Need-same-length-3
 same-length-3 c = search rules
 
 returns-3 : tie.Need-returns-3
-returns-3 c K t = opened-full _ _ c.enum_told.given.1 c.before.before.before.before.read.ensures (omega (arith, c.before.before.before.before.before.before.before.before.before.before.requires.2, c.before.before.before.before.read.auto)) c.before.before.before.before.before.before.before.before.before.before.requires.1 K
+returns-3 c K t = opened-full _ _ _ c.enum_told.given.1 c.before.before.before.before.read.ensures (omega (arith, c.before.before.before.before.before.before.before.before.before.before.requires.2, c.before.before.before.before.read.auto)) c.before.before.before.before.before.before.before.before.before.before.requires.1 K
 
 pub open_spec : {M : Type 1} → statement M
 open_spec =

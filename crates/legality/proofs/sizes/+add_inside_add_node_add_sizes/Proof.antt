@@ -1,18 +1,14 @@
 -- `legality::sizes::add_inside`, `add_node` and `add_sizes` meet their contracts: the nodes inside one are fewer. The loop's invariant
 -- (`Going`): the nodes passed are measured. Assumes nothing.
 use native.Mathlib.Omega.{arith}
-use mathlib.Core.Path.{◌≡◌, ap, refl, sym, ◌∙◌}
+use mathlib.Core.Path.{◌≡◌, refl, sym, ◌∙◌}
 use borrow.Author.Rules.{rules}
 use Rattle.xml.specs.Forest.{Forest}
-use Rattle.xml.specs.Read.{tag_of}
-use Rattle.xml.specs.SameTapes.{tape-at}
-use Rattle.xml.specs.Tape.{Tape, head_at, next_at, start_in, end_in}
+use Rattle.xml.specs.Tape.{Tape, head_at, next_at}
 use Rattle.xml.specs.SignLaws.{plain-length}
 use Rattle.xml.specs.TapeLaws.{Front, OneRun, bytes_at, front, one-run, tape-le}
-use Rattle.legality.specs.TagAt.{TagAt, node-tag, counts_of}
-use Rattle.legality.specs.declared.tags.Counts.{Counts}
-use Rattle.legality.specs.Measured.{owned, Room, Measured, raw-most, text-measured, run-measured, deep-measured, crowded-measured, element-stopped, element-measured, twice-measured, timed-stopped, timed-measured}
-use Rattle.legality.specs.Going.{Going, going_start, going-room, going-fits, going_more, going-stopped, going_done, text-short, inner-text, inner_room, inner-own, inner-cells}
+use Rattle.legality.specs.Measured.{owned, Room, Measured, one-most, text-measured, run-measured, deep-measured, element-stopped, element-measured, twice-measured, timed-stopped, timed-measured}
+use Rattle.legality.specs.Going.{Going, going_start, going-room, going-fits, going_more, going-stopped, going_done, text-short, name-length, inner-text, inner_room, inner-own, inner-cells}
 use Prim.Native.Nat.{ℕ, ◌+◌, ◌*◌, ◌-◌, ◌%◌, ◌<◌, ◌≤◌}
 use borrow.Fn.Kinds.{In}
 use borrow.Fn.PlainCycle.{Measures, is, falls, and}
@@ -26,9 +22,9 @@ use Rattle.legality.proofs.sizes.add_sizes.Reads as add-sizes
 use Rattle.legality.proofs.sizes.add_sizes.Kinds as add-sizes-kinds
 use Rattle.legality.proofs.sizes.+add_inside_add_node_add_sizes.Lts-add_sizes as add-sizes-lts
 use Rattle.legality.proofs.sizes.halted.Reads as halted-reads
+use Rattle.legality.proofs.sizes.one.Reads as one-reads
 use Rattle.legality.proofs.sizes.raise.Reads as raise-reads
 use Rattle.legality.proofs.sizes.sized.Reads as sized_Reads
-use Rattle.legality.proofs.tags.tag_counts.Reads as tag-counts-reads
 use Rattle.xml.proofs.compare.text_len.Reads as text-len-reads
 use Rattle.xml.proofs.tape.is_run.Reads as is-run-reads
 use Rattle.xml.proofs.tape.view_at.Reads as view-at-reads
@@ -67,7 +63,7 @@ abbrev add-inside-calls : ℕ → add-inside-lts.Claims
 add-inside-calls t = (is-run-reads.Asked, is-run-reads.Learnt, view-at-reads.Asked, view-at-reads.Learnt, plain-end-reads.Asked, plain-end-reads.Learnt, sized_Reads.Asked, sized_Reads.Learnt, add-sizes-below t, add-sizes.Post)
 
 abbrev add-node-calls : ℕ → add-node-lts.Claims
-add-node-calls t = (view-at-reads.Asked, view-at-reads.Learnt, halted-reads.Asked, halted-reads.Learnt, tag-counts-reads.Asked, tag-counts-reads.Learnt, add-inside-below t, add-inside.Post, sized_Reads.Asked, sized_Reads.Learnt, raise-reads.Asked, raise-reads.Learnt)
+add-node-calls t = (view-at-reads.Asked, view-at-reads.Learnt, halted-reads.Asked, halted-reads.Learnt, add-inside-below t, add-inside.Post, one-reads.Asked, one-reads.Learnt, sized_Reads.Asked, sized_Reads.Learnt, raise-reads.Asked, raise-reads.Learnt)
 
 abbrev add-sizes-calls : ℕ → add-sizes-lts.Claims
 add-sizes-calls t = (view-at-reads.Asked, view-at-reads.Learnt, text-len-reads.Asked, text-len-reads.Learnt, add-node-below t, add-node.Post, sized_Reads.Asked, sized_Reads.Learnt)
@@ -130,17 +126,6 @@ module _ (t : ℕ) where
   timed-kind : (c : add-node-lts.Else1 (add-node-calls t) (add-node-at t) add-node.Post) → head_at c.before.before.before.before.before.before.before.args.tape.now c.before.before.before.before.before.before.before.args.p % 4 ≡ 2
   timed-kind c = omega (arith, (node-front c.before.before.before.before.before.before.before).kind, c.before.before.before.before.before.before.before.requires.1.1, rw c.before.before.view-at.ensures at c.if1.false)
 
-  -- it is an element
-  element-kind : (c : add-node-lts.Then1 (add-node-calls t) (add-node-at t) add-node.Post) → let a = c.before.before.before.before.before.before.before.args in head_at a.tape.now a.p % 4 ≡ 1
-  element-kind c = rw c.before.before.view-at.ensures at c.if1.true
-
-  element-tag : (c : add-node-lts.Then1 (add-node-calls t) (add-node-at t) add-node.Post) → let a = c.before.before.before.before.before.before.before.args in TagAt a.src.now (start_in (head_at a.tape.now a.p)) (end_in (head_at a.tape.now a.p))
-  element-tag c = node-tag (tape-at c.before.before.before.before.before.before.before.args.p c.before.before.before.before.before.before.before.requires.1.2.tape (omega arith) c.before.before.before.before.before.before.before.requires.1.0) (element-kind c)
-
-  -- what it counts for
-  element-counts : (c : add-node-lts.After-tag-counts (add-node-calls t) (add-node-at t) add-node.Post) → let a = c.before.before.before.before.before.before.before.before.before.args in c.tag-counts.result ≡ counts_of (tag_of (bytes_at a.src.now a.tape.now a.p))
-  element-counts c = rw c.before.before.before.before.view-at.ensures at c.tag-counts.ensures
-
   add-node-view-at-requires : add-node-lts.Need-view-at-requires (add-node-calls t) (add-node-at t) add-node.Post
   add-node-view-at-requires c κs = (node-front c.before.before.before.before).held
 
@@ -150,23 +135,14 @@ module _ (t : ℕ) where
   add-node-returns : add-node-lts.Need-returns (add-node-calls t) (add-node-at t) add-node.Post
   add-node-returns c f x = deep-measured x c.before.before.before.before.before.before.before.before.before.requires.1.0 (rw c.before.before.before.before.view-at.ensures at c.before.before.if1.true) c.before.if2.true c.halted.ensures
 
-  add-node-tag-counts-requires : add-node-lts.Need-tag-counts-requires (add-node-calls t) (add-node-at t) add-node.Post
-  add-node-tag-counts-requires c κs = rw c.before.before.before.view-at.ensures (element-tag c.before)
-
-  add-node-halted-requires-2 : add-node-lts.Need-halted-requires-2 (add-node-calls t) (add-node-at t) add-node.Post
-  add-node-halted-requires-2 c κs = search rules
-
-  add-node-returns-2 : add-node-lts.Need-returns-2 (add-node-calls t) (add-node-at t) add-node.Post
-  add-node-returns-2 c f x = crowded-measured x c.before.before.before.before.before.before.before.before.before.before.before.before.requires.1.0 (element-kind c.before.before.before.before.before) (omega (arith, ap (λ (z : Counts). z.attributes) (element-counts c.before.before.before), c.before.if3.true)) c.halted2.ensures
-
   add-node-add-add-inside : add-node-lts.Need-overflow-add-add-inside (add-node-calls t) (add-node-at t) add-node.Post
-  add-node-add-add-inside c = omega (arith, (node-front c.before.before.before.before.before.before.before.before.before.before.before).held)
+  add-node-add-add-inside c = omega (arith, (node-front c.before.before.before.before.before.before.before.before).held)
 
   add-node-sub-add-inside : add-node-lts.Need-overflow-sub-add-inside (add-node-calls t) (add-node-at t) add-node.Post
-  add-node-sub-add-inside c = omega (arith, c.before.before.before.if2.false)
+  add-node-sub-add-inside c = omega arith
 
   add-node-add-inside-requires : add-node-lts.Need-add-inside-requires (add-node-calls t) (add-node-at t) add-node.Post
-  add-node-add-inside-requires c κs = rw c.before.before.before.before.before.before.before.before.view-at.ensures (omega (arith, c.before.before.before.before.before.before.before.before.before.before.before.before.before.requires.0, c.before.before.before.before.before.before.before.before.before.before.before.before.before.requires.1.0), inner c.before.before.before.before.before.before.before.before.before.before.before.before.before)
+  add-node-add-inside-requires c κs = rw c.before.before.before.before.before.view-at.ensures (omega (arith, c.before.before.before.before.before.before.before.before.before.before.requires.0, c.before.before.before.before.before.before.before.before.before.before.requires.1.0), inner c.before.before.before.before.before.before.before.before.before.before)
 
   add-node-same-length : add-node-lts.Need-same-length (add-node-calls t) (add-node-at t) add-node.Post
   add-node-same-length c = search rules
@@ -174,14 +150,29 @@ module _ (t : ℕ) where
   add-node-same-length-2 : add-node-lts.Need-same-length-2 (add-node-calls t) (add-node-at t) add-node.Post
   add-node-same-length-2 c = search rules
 
-  add-node-returns-3 : add-node-lts.Need-returns-3 (add-node-calls t) (add-node-at t) add-node.Post
-  add-node-returns-3 c f x = element-stopped x c.before.before.before.before.before.before.before.before.before.before.before.before.before.before.before.before.before.before.before.requires.1.0 (element-kind c.before.before.before.before.before.before.before.before.before.before.before.before) (rw c.before.before.before.before.before.before.before.before.before.before.before.before.before.before.view-at.ensures at c.before.before.before.before.before.add-inside.ensures) c.if4.true
+  add-node-returns-2 : add-node-lts.Need-returns-2 (add-node-calls t) (add-node-at t) add-node.Post
+  add-node-returns-2 c f x = element-stopped x c.before.before.before.before.before.before.before.before.before.before.before.before.before.before.before.before.requires.1.0 (rw c.before.before.before.before.before.before.before.before.before.before.before.view-at.ensures at c.before.before.before.before.before.before.before.before.before.if1.true) c.before.before.before.before.before.before.before.before.if2.false (rw c.before.before.before.before.before.before.before.before.before.before.before.view-at.ensures at c.before.before.before.before.before.add-inside.ensures) c.if3.true
+
+  add-node-sub-name : add-node-lts.Need-overflow-sub-name (add-node-calls t) (add-node-at t) add-node.Post
+  add-node-sub-name c = rw c.before.before.before.before.before.before.before.before.before.before.before.before.view-at.ensures (omega arith)
+
+  add-node-cast-name : add-node-lts.Need-overflow-cast-name (add-node-calls t) (add-node-at t) add-node.Post
+  add-node-cast-name c = rw c.before.before.before.before.before.before.before.before.before.before.before.before.view-at.ensures (omega arith)
+
+  add-node-one-requires : add-node-lts.Need-one-requires (add-node-calls t) (add-node-at t) add-node.Post
+  add-node-one-requires c κs = rw c.before.before.before.before.before.before.before.before.before.before.before.before.view-at.ensures (omega arith, (node-front c.before.before.before.before.before.before.before.before.before.before.before.before.before.before.before.before.before).within)
 
   add-node-add-sized : add-node-lts.Need-overflow-add-sized (add-node-calls t) (add-node-at t) add-node.Post
-  add-node-add-sized c = omega (arith, ap (λ (z : Counts). z.nodes) (element-counts c.before.before.before.before.before.before.before.before.before.before.before.before), (raw-most c.before.before.before.before.before.before.before.before.before.before.before.before.before.before.before.before.before.before.before.before.before.requires.1.2.tape c.before.before.before.before.before.before.before.before.before.before.before.before.before.before.before.before.before.before.before.before.before.requires.1.0 (element-kind c.before.before.before.before.before.before.before.before.before.before.before.before.before.before)).0, inner-own (inner c.before.before.before.before.before.before.before.before.before.before.before.before.before.before.before.before.before.before.before.before.before) (rw c.before.before.before.before.before.before.before.before.before.before.before.before.before.before.before.before.view-at.ensures at c.before.before.before.before.before.before.before.add-inside.ensures) c.before.before.if4.false)
+  add-node-add-sized c = omega (arith, rw c.before.before.before.before.before.before.before.before.before.before.before.before.before.before.view-at.ensures at c.before.one.ensures, one-most (bytes_at c.before.before.before.before.before.before.before.before.before.before.before.before.before.before.before.before.before.before.before.args.src.now c.before.before.before.before.before.before.before.before.before.before.before.before.before.before.before.before.before.before.before.args.tape.now c.before.before.before.before.before.before.before.before.before.before.before.before.before.before.before.before.before.before.before.args.p), inner-own (inner c.before.before.before.before.before.before.before.before.before.before.before.before.before.before.before.before.before.before.before) (rw c.before.before.before.before.before.before.before.before.before.before.before.before.before.before.view-at.ensures at c.before.before.before.before.before.before.before.before.add-inside.ensures) c.before.before.before.if3.false)
+
+  add-node-mul-sized : add-node-lts.Need-overflow-mul-sized (add-node-calls t) (add-node-at t) add-node.Post
+  add-node-mul-sized c = rw c.before.before.before.before.before.before.before.before.before.before.before.before.before.before.view-at.ensures (omega arith)
 
   add-node-add-sized-2 : add-node-lts.Need-overflow-add-sized-2 (add-node-calls t) (add-node-at t) add-node.Post
-  add-node-add-sized-2 c = omega (arith, ap (λ (z : Counts). z.bytes) (element-counts c.before.before.before.before.before.before.before.before.before.before.before.before.before.before), (raw-most c.before.before.before.before.before.before.before.before.before.before.before.before.before.before.before.before.before.before.before.before.before.before.before.requires.1.2.tape c.before.before.before.before.before.before.before.before.before.before.before.before.before.before.before.before.before.before.before.before.before.before.before.requires.1.0 (element-kind c.before.before.before.before.before.before.before.before.before.before.before.before.before.before.before.before)).1, inner-own (inner c.before.before.before.before.before.before.before.before.before.before.before.before.before.before.before.before.before.before.before.before.before.before.before) (rw c.before.before.before.before.before.before.before.before.before.before.before.before.before.before.before.before.before.before.view-at.ensures at c.before.before.before.before.before.before.before.before.before.add-inside.ensures) c.before.before.before.before.if4.false)
+  add-node-add-sized-2 c = rw c.before.before.before.before.before.before.before.before.before.before.before.before.before.before.view-at.ensures (omega arith)
+
+  add-node-add-sized-3 : add-node-lts.Need-overflow-add-sized-3 (add-node-calls t) (add-node-at t) add-node.Post
+  add-node-add-sized-3 c = rw c.before.before.before.before.before.before.before.before.before.before.before.before.before.before.before.view-at.ensures (omega (arith, inner-own (inner c.before.before.before.before.before.before.before.before.before.before.before.before.before.before.before.before.before.before.before.before) (rw c.before.before.before.before.before.before.before.before.before.before.before.before.before.before.before.view-at.ensures at c.before.before.before.before.before.before.before.before.before.add-inside.ensures) c.before.before.before.before.if3.false))
 
   add-node-sized-requires : add-node-lts.Need-sized-requires (add-node-calls t) (add-node-at t) add-node.Post
   add-node-sized-requires c κs = search rules
@@ -192,14 +183,14 @@ module _ (t : ℕ) where
   add-node-same-length-4 : add-node-lts.Need-same-length-4 (add-node-calls t) (add-node-at t) add-node.Post
   add-node-same-length-4 c = search rules
 
+  add-node-returns-3 : add-node-lts.Need-returns-3 (add-node-calls t) (add-node-at t) add-node.Post
+  add-node-returns-3 c f x = rw c.sized.ensures (element-measured x c.before.before.before.before.before.before.before.before.before.before.before.before.before.before.before.before.before.before.before.before.before.requires.1.0 (rw c.before.before.before.before.before.before.before.before.before.before.before.before.before.before.before.before.view-at.ensures at c.before.before.before.before.before.before.before.before.before.before.before.before.before.before.if1.true) c.before.before.before.before.before.before.before.before.before.before.before.before.before.if2.false (rw c.before.before.before.before.before.before.before.before.before.before.before.before.before.before.before.before.view-at.ensures at c.before.before.before.before.before.before.before.before.before.before.add-inside.ensures) c.before.before.before.before.before.if3.false (rw c.before.before.before.before.before.before.before.before.before.before.before.before.before.before.before.before.view-at.ensures at c.before.before.before.one.ensures) refl (rw (c.before.before.before.before.before.before.before.before.before.before.before.before.before.before.before.before.view-at.ensures, name-length (node-front c.before.before.before.before.before.before.before.before.before.before.before.before.before.before.before.before.before.before.before.before.before)) refl))
+
+  add-node-halted-requires-2 : add-node-lts.Need-halted-requires-2 (add-node-calls t) (add-node-at t) add-node.Post
+  add-node-halted-requires-2 c κs = search rules
+
   add-node-returns-4 : add-node-lts.Need-returns-4 (add-node-calls t) (add-node-at t) add-node.Post
-  add-node-returns-4 c f x = rw c.sized.ensures (element-measured x c.before.before.before.before.before.before.before.before.before.before.before.before.before.before.before.before.before.before.before.before.before.before.before.before.requires.1.0 (element-kind c.before.before.before.before.before.before.before.before.before.before.before.before.before.before.before.before.before) c.before.before.before.before.before.before.before.before.before.before.before.before.before.before.before.before.if2.false (omega (arith, ap (λ (z : Counts). z.attributes) (element-counts c.before.before.before.before.before.before.before.before.before.before.before.before.before.before.before), c.before.before.before.before.before.before.before.before.before.before.before.before.before.if3.false)) (rw c.before.before.before.before.before.before.before.before.before.before.before.before.before.before.before.before.before.before.before.view-at.ensures at c.before.before.before.before.before.before.before.before.before.before.add-inside.ensures) c.before.before.before.before.before.if4.false (ap (λ (z : Counts). z.nodes) (element-counts c.before.before.before.before.before.before.before.before.before.before.before.before.before.before.before)) refl (omega (arith, ap (λ (z : Counts). z.bytes) (element-counts c.before.before.before.before.before.before.before.before.before.before.before.before.before.before.before))))
-
-  add-node-halted-requires-3 : add-node-lts.Need-halted-requires-3 (add-node-calls t) (add-node-at t) add-node.Post
-  add-node-halted-requires-3 c κs = search rules
-
-  add-node-returns-5 : add-node-lts.Need-returns-5 (add-node-calls t) (add-node-at t) add-node.Post
-  add-node-returns-5 c f x = twice-measured x c.before.before.before.before.before.before.before.before.before.requires.1.0 (timed-kind c.before.before) c.before.if5.true c.halted3.ensures
+  add-node-returns-4 c f x = twice-measured x c.before.before.before.before.before.before.before.before.before.requires.1.0 (timed-kind c.before.before) c.before.if4.true c.halted2.ensures
 
   add-node-add-add-inside-2 : add-node-lts.Need-overflow-add-add-inside-2 (add-node-calls t) (add-node-at t) add-node.Post
   add-node-add-add-inside-2 c = omega (arith, (node-front c.before.before.before.before.before.before.before.before).held)
@@ -213,12 +204,12 @@ module _ (t : ℕ) where
   add-node-same-length-6 : add-node-lts.Need-same-length-6 (add-node-calls t) (add-node-at t) add-node.Post
   add-node-same-length-6 c = search rules
 
-  add-node-returns-6 : add-node-lts.Need-returns-6 (add-node-calls t) (add-node-at t) add-node.Post
-  add-node-returns-6 c f x = timed-stopped x c.before.before.before.before.before.before.before.before.before.before.before.before.before.before.before.before.requires.1.0 (timed-kind c.before.before.before.before.before.before.before.before.before) c.before.before.before.before.before.before.before.before.if5.false (rw c.before.before.before.before.before.before.before.before.before.before.before.view-at.ensures at c.before.before.before.before.before.add-inside2.ensures) c.if6.true
+  add-node-returns-5 : add-node-lts.Need-returns-5 (add-node-calls t) (add-node-at t) add-node.Post
+  add-node-returns-5 c f x = timed-stopped x c.before.before.before.before.before.before.before.before.before.before.before.before.before.before.before.before.requires.1.0 (timed-kind c.before.before.before.before.before.before.before.before.before) c.before.before.before.before.before.before.before.before.if4.false (rw c.before.before.before.before.before.before.before.before.before.before.before.view-at.ensures at c.before.before.before.before.before.add-inside2.ensures) c.if5.true
 
   add-node-raise-requires : add-node-lts.Need-raise-requires (add-node-calls t) (add-node-at t) add-node.Post
   add-node-raise-requires c κs =
-      let z = inner-cells (inner c.before.before.before.before.before.before.before.before.before.before.before.before.before.before.before.before.before.before) (rw c.before.before.before.before.before.before.before.before.before.before.before.before.before.view-at.ensures at c.before.before.before.before.before.before.before.add-inside2.ensures) c.before.before.if6.false in
+      let z = inner-cells (inner c.before.before.before.before.before.before.before.before.before.before.before.before.before.before.before.before.before.before) (rw c.before.before.before.before.before.before.before.before.before.before.before.before.before.view-at.ensures at c.before.before.before.before.before.before.before.add-inside2.ensures) c.before.before.if5.false in
       rw c.before.before.before.before.before.before.before.before.before.before.before.before.before.view-at.ensures (inner-text c.before.before.before.before.before.before.before.before.before.before.before.before.before.before.before.before.before.before.requires.1.2 c.before.before.before.before.before.before.before.before.before.before.before.before.before.before.before.before.before.before.requires.1.0 (timed-kind c.before.before.before.before.before.before.before.before.before.before.before), omega arith, (node-front c.before.before.before.before.before.before.before.before.before.before.before.before.before.before.before.before.before.before).within, z.0, z.1)
 
   add-node-sized-requires-2 : add-node-lts.Need-sized-requires-2 (add-node-calls t) (add-node-at t) add-node.Post
@@ -230,10 +221,10 @@ module _ (t : ℕ) where
   add-node-same-length-8 : add-node-lts.Need-same-length-8 (add-node-calls t) (add-node-at t) add-node.Post
   add-node-same-length-8 c = search rules
 
-  add-node-returns-7 : add-node-lts.Need-returns-7 (add-node-calls t) (add-node-at t) add-node.Post
-  add-node-returns-7 c f x =
+  add-node-returns-6 : add-node-lts.Need-returns-6 (add-node-calls t) (add-node-at t) add-node.Post
+  add-node-returns-6 c f x =
       let g = rw c.before.before.before.before.before.before.before.before.before.before.before.before.before.before.before.before.before.before.before.view-at.ensures at c.before.before.before.before.before.raise.ensures in
-      rw c.sized2.ensures (timed-measured x c.before.before.before.before.before.before.before.before.before.before.before.before.before.before.before.before.before.before.before.before.before.before.before.before.requires.1.0 (timed-kind c.before.before.before.before.before.before.before.before.before.before.before.before.before.before.before.before.before) c.before.before.before.before.before.before.before.before.before.before.before.before.before.before.before.before.if5.false (inner-text c.before.before.before.before.before.before.before.before.before.before.before.before.before.before.before.before.before.before.before.before.before.before.before.before.requires.1.2 c.before.before.before.before.before.before.before.before.before.before.before.before.before.before.before.before.before.before.before.before.before.before.before.before.requires.1.0 (timed-kind c.before.before.before.before.before.before.before.before.before.before.before.before.before.before.before.before.before)) (rw c.before.before.before.before.before.before.before.before.before.before.before.before.before.before.before.before.before.before.before.view-at.ensures at c.before.before.before.before.before.before.before.before.before.before.before.before.before.add-inside2.ensures) c.before.before.before.before.before.before.before.before.if6.false g.0 g.1)
+      rw c.sized2.ensures (timed-measured x c.before.before.before.before.before.before.before.before.before.before.before.before.before.before.before.before.before.before.before.before.before.before.before.before.requires.1.0 (timed-kind c.before.before.before.before.before.before.before.before.before.before.before.before.before.before.before.before.before) c.before.before.before.before.before.before.before.before.before.before.before.before.before.before.before.before.if4.false (inner-text c.before.before.before.before.before.before.before.before.before.before.before.before.before.before.before.before.before.before.before.before.before.before.before.before.requires.1.2 c.before.before.before.before.before.before.before.before.before.before.before.before.before.before.before.before.before.before.before.before.before.before.before.before.requires.1.0 (timed-kind c.before.before.before.before.before.before.before.before.before.before.before.before.before.before.before.before.before)) (rw c.before.before.before.before.before.before.before.before.before.before.before.before.before.before.before.before.before.before.before.view-at.ensures at c.before.before.before.before.before.before.before.before.before.before.before.before.before.add-inside2.ensures) c.before.before.before.before.before.before.before.before.if5.false g.0 g.1)
 
 module _ (t : ℕ) where
   way : (c : add-sizes-lts.At-loop (add-sizes-calls t) (add-sizes-at t) add-sizes.Post add-sizes-Inv-loop add-sizes-μ-loop) → Going c.before.before.before.before.before.args.src.now c.before.before.before.before.before.args.tape.now c.before.before.before.before.before.args.lo c.loop.p c.before.before.before.before.before.args.hi c.before.before.before.before.before.args.left c.before.before.before.before.before.args.timed c.before.before.before.before.before.requires.1.forest c.loop.n c.loop.b c.before.before.before.before.before.args.nodes.now c.loop.nodes c.before.before.before.before.before.args.bytes.now c.loop.bytes
@@ -310,5 +301,5 @@ pub +add-inside-add-node-add-sizes-spec : {M : Type 1} → statement M
 +add-inside-add-node-add-sizes-spec =
     close μ-add-inside μ-add-node μ-add-sizes
     (λ t. add-inside-lts.spec (add-inside-calls t) (add-inside-at t) add-inside.Post (add-inside-is-run-requires t) (add-inside-view-at-requires t) (add-inside-plain-end-requires t) (add-inside-sub-sized t) (add-inside-cast-sized t) (add-inside-sized-requires t) (add-inside-returns t) (add-inside-add-sizes-requires t) (add-inside-same-length t) (add-inside-same-length-2 t) (add-inside-returns-2 t))
-    (λ t. add-node-lts.spec (add-node-calls t) (add-node-at t) add-node.Post (add-node-view-at-requires t) (add-node-halted-requires t) (add-node-returns t) (add-node-tag-counts-requires t) (add-node-halted-requires-2 t) (add-node-returns-2 t) (add-node-add-add-inside t) (add-node-sub-add-inside t) (add-node-add-inside-requires t) (add-node-same-length t) (add-node-same-length-2 t) (add-node-returns-3 t) (add-node-add-sized t) (add-node-add-sized-2 t) (add-node-sized-requires t) (add-node-same-length-3 t) (add-node-same-length-4 t) (add-node-returns-4 t) (add-node-halted-requires-3 t) (add-node-returns-5 t) (add-node-add-add-inside-2 t) (add-node-add-inside-requires-2 t) (add-node-same-length-5 t) (add-node-same-length-6 t) (add-node-returns-6 t) (add-node-raise-requires t) (add-node-sized-requires-2 t) (add-node-same-length-7 t) (add-node-same-length-8 t) (add-node-returns-7 t))
+    (λ t. add-node-lts.spec (add-node-calls t) (add-node-at t) add-node.Post (add-node-view-at-requires t) (add-node-halted-requires t) (add-node-returns t) (add-node-add-add-inside t) (add-node-sub-add-inside t) (add-node-add-inside-requires t) (add-node-same-length t) (add-node-same-length-2 t) (add-node-returns-2 t) (add-node-sub-name t) (add-node-cast-name t) (add-node-one-requires t) (add-node-add-sized t) (add-node-mul-sized t) (add-node-add-sized-2 t) (add-node-add-sized-3 t) (add-node-sized-requires t) (add-node-same-length-3 t) (add-node-same-length-4 t) (add-node-returns-3 t) (add-node-halted-requires-2 t) (add-node-returns-4 t) (add-node-add-add-inside-2 t) (add-node-add-inside-requires-2 t) (add-node-same-length-5 t) (add-node-same-length-6 t) (add-node-returns-5 t) (add-node-raise-requires t) (add-node-sized-requires-2 t) (add-node-same-length-7 t) (add-node-same-length-8 t) (add-node-returns-6 t))
     (λ t. add-sizes-lts.spec (add-sizes-calls t) (add-sizes-at t) add-sizes.Post add-sizes-Inv-loop add-sizes-μ-loop (add-sizes-loop-holds t) (add-sizes-view-at-requires t) (add-sizes-text-len-requires t) (add-sizes-cast-b t) (add-sizes-add-b t) (add-sizes-add-n t) (add-sizes-loop-less t) (add-sizes-loop-again t) (add-sizes-add-node-requires t) (add-sizes-same-length t) (add-sizes-same-length-2 t) (add-sizes-returns t) (add-sizes-add-n-2 t) (add-sizes-add-b-2 t) (add-sizes-loop-less-2 t) (add-sizes-loop-again-2 t) (add-sizes-sized-requires t) (add-sizes-same-length-3 t) (add-sizes-same-length-4 t) (add-sizes-returns-2 t))

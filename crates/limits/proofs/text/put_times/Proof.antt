@@ -16,8 +16,8 @@ decreases-loop text₀ at word count n₀ i₀ text n i = count - i
 loop-holds : tie.Need-loop-init invariant-loop decreases-loop
 loop-holds c = search rules
 
-put-word-requires : tie.Need-put-word-requires invariant-loop decreases-loop
-put-word-requires c κs = search rules
+put-requires : tie.Need-put-requires invariant-loop decreases-loop
+put-requires c κs = search rules
 
 add-i : tie.Need-overflow-add-i invariant-loop decreases-loop
 add-i c = search rules
@@ -44,7 +44,7 @@ put-times-spec =
     invariant-loop
     decreases-loop
     loop-holds
-    put-word-requires
+    put-requires
     add-i
     loop-less
     loop-again

@@ -1,5 +1,5 @@
 -- `walks::back::write_back`, `back_inside` and `back_node` meet their contracts: siblings by a loop, depth by recursion; a node
--- is written into the part of the output that it is lent. Each node has 196,640 bytes of room.
+-- is written into the part of the output that it is lent. Each node has 163,840 bytes of room.
 use Prim.Native.Nat.{ℕ, ◌+◌, ◌*◌, ◌-◌, ◌%◌, ◌<◌, ◌≤◌}
 use native.Mathlib.Omega.{arith}
 use mathlib.Core.Path.{◌≡◌, sym, ◌∙◌}
@@ -7,8 +7,7 @@ use borrow.Author.Rules.{rules}
 use Rattle.xml.specs.Forest.{Forest}
 use Rattle.xml.specs.OverLaws.{lent_back}
 use Rattle.xml.specs.Tape.{head_at, next_at, start_in, end_in, Tape}
-use Rattle.xml.specs.TapeLaws.{Front, OneRun, bytes_at, open-tag, front, one-run, tape-le}
-use Rattle.xml.specs.Truth.{clash}
+use Rattle.xml.specs.TapeLaws.{Front, OneRun, bytes_at, front, one-run, tape-le}
 use Rattle.timestamp.specs.Times.{Times}
 use Rattle.timestamp.specs.Set.{cut_at}
 use Rattle.timestamp.specs.Change.{Changes}
@@ -79,7 +78,7 @@ write-back-calls t = (least-reads.Asked, least-reads.Learnt, back-node-below t, 
 abbrev write-back-Inv-loop : write-back-lts.invariant-loop
 write-back-Inv-loop src tape lo hi i a around out₀ at p₀ to₀ out p to =
     let w = back_text i (times_in i (cut_text src a around.to around.tail i)) in
-    (lo ≤ p) × Timely i src tape p hi × (to + 196640 * (hi - p) ≤ at + 196640 * (hi - lo)) × ((f : Forest) → Tape src tape lo hi f → Going w src tape p hi (w f) out₀ at to out)
+    (lo ≤ p) × Timely i src tape p hi × (to + 163840 * (hi - p) ≤ at + 163840 * (hi - lo)) × ((f : Forest) → Tape src tape lo hi f → Going w src tape p hi (w f) out₀ at to out)
 
 abbrev write-back-μ-loop : write-back-lts.decreases-loop
 write-back-μ-loop src tape lo hi i a around out₀ at p₀ to₀ out p to = hi - p
@@ -158,14 +157,7 @@ module _ (t : ℕ) where
       text-renders (back-pieces c.before.before.before.before.before.before.before.before.before.before.args.i (around c.before.before.before.before.before.before.before.before.before.before)) c.before.before.before.before.before.before.before.before.before.before.requires.1.0 (rw v at c.before.before.before.before.if1.true) (rw v at c.before.before.put-text.ensures)
 
   back-node-put-open-requires : back-node-lts.Need-put-open-requires (back-node-calls t) (back-node-at t) back-node.Post
-  back-node-put-open-requires c κs =
-      let v = c.before.before.before.before.before.view-at.ensures in
-      let q = c.before.before.before.before.before.before.before.before.before.requires in
-      let k = rw v at c.before.if2.true in
-      let h = here c.before.before.before.before.before.before.before.before.before in
-      let w = h.within in
-      let l = q.1.4 in
-      rw v (omega arith, w, omega arith, omega arith, λ _. open-tag q.1.1.tape q.1.0 k)
+  back-node-put-open-requires c κs = rw c.before.before.before.before.before.view-at.ensures (omega (arith, (here c.before.before.before.before.before.before.before.before.before).within, c.before.before.before.before.before.before.before.before.before.requires.1.4))
 
   back-node-add-back-inside : back-node-lts.Need-overflow-add-back-inside (back-node-calls t) (back-node-at t) back-node.Post
   back-node-add-back-inside c = omega (arith, (here c.before.before.before.before.before.before.before.before.before.before.before.before).held)
@@ -175,7 +167,7 @@ module _ (t : ℕ) where
       let v = c.before.before.before.before.before.before.before.before.before.view-at.ensures in
       let q = c.before.before.before.before.before.before.before.before.before.before.before.before.before.requires in
       let k = rw v at c.before.before.before.before.before.before.before.if1.false in
-      let o = open-room c.before.before.before.before.before.before.before.before.before.before.before.before.before.requires.1.1.tape c.before.before.before.before.before.before.before.before.before.before.before.before.before.requires.1.0 (rw v at c.before.before.before.before.before.if2.true) (rw v at c.before.before.before.put-open.ensures) in
+      let o = open-room (here c.before.before.before.before.before.before.before.before.before.before.before.before.before) (rw v at c.before.before.before.put-open.ensures) in
       rw v (omega (arith, q.0, q.1.0), (timely-inside q.1.1 q.1.0 k, q.1.2, q.1.3, omega (arith, q.1.4, q.1.0, o)))
 
   back-node-put-close-requires : back-node-lts.Need-put-close-requires (back-node-calls t) (back-node-at t) back-node.Post
@@ -184,8 +176,8 @@ module _ (t : ℕ) where
       let q = c.before.before.before.before.before.before.before.before.before.before.before.before.before.before.before.before.before.requires in
       let x = timely-inside q.1.1 q.1.0 (rw v at c.before.before.before.before.before.before.before.before.before.before.before.if1.false) in
       let k = rw v at c.before.before.before.back_inside.ensures in
-      let o = open-room c.before.before.before.before.before.before.before.before.before.before.before.before.before.before.before.before.before.requires.1.1.tape c.before.before.before.before.before.before.before.before.before.before.before.before.before.before.before.before.before.requires.1.0 (rw v at c.before.before.before.before.before.before.before.before.before.if2.true) (rw v at c.before.before.before.before.before.before.before.put-open.ensures) in
-      rw v (omega arith, (here c.before.before.before.before.before.before.before.before.before.before.before.before.before.before.before.before.before).within, omega arith, omega (arith, (here c.before.before.before.before.before.before.before.before.before.before.before.before.before.before.before.before.before).within, (k x.forest x.tape).place, back-length c.before.before.before.before.before.before.before.before.before.before.before.before.before.before.before.before.before.args.i (around c.before.before.before.before.before.before.before.before.before.before.before.before.before.before.before.before.before) x, q.1.4, q.1.0, o), λ _. open-tag c.before.before.before.before.before.before.before.before.before.before.before.before.before.before.before.before.before.requires.1.1.tape c.before.before.before.before.before.before.before.before.before.before.before.before.before.before.before.before.before.requires.1.0 (rw v at c.before.before.before.before.before.before.before.before.before.if2.true))
+      let o = open-room (here c.before.before.before.before.before.before.before.before.before.before.before.before.before.before.before.before.before) (rw v at c.before.before.before.before.before.before.before.put-open.ensures) in
+      rw v (omega (arith, (here c.before.before.before.before.before.before.before.before.before.before.before.before.before.before.before.before.before).within, (k x.forest x.tape).place, back-length c.before.before.before.before.before.before.before.before.before.before.before.before.before.before.before.before.before.args.i (around c.before.before.before.before.before.before.before.before.before.before.before.before.before.before.before.before.before) x, q.1.4, q.1.0, o))
 
   back-node-same-length-2 : back-node-lts.Need-same-length-2 (back-node-calls t) (back-node-at t) back-node.Post
   back-node-same-length-2 c = search rules
@@ -257,7 +249,7 @@ module _ (t : ℕ) where
       let x = timely-inside q.1.1 q.1.0 (rw v at c.before.before.before.before.before.before.before.before.before.before.before.before.before.before.before.before.before.if1.false) in
       let k = rw v at c.before.before.before.back-inside3.ensures in
       let o = trimmed-room (trim c.before.before.before.before.before.before.before.before.before.before.before.before.before) (rw v at c.before.before.before.before.before.before.before.put-changed.ensures) in
-      rw v (omega arith, (here c.before.before.before.before.before.before.before.before.before.before.before.before.before.before.before.before.before.before.before.before.before.before.before).within, omega arith, omega (arith, (here c.before.before.before.before.before.before.before.before.before.before.before.before.before.before.before.before.before.before.before.before.before.before.before).within, (k x.forest x.tape).place, back-length c.before.before.before.before.before.before.before.before.before.before.before.before.before.before.before.before.before.before.before.before.before.before.before.args.i (inner c.before.before.before.before.before.before.before.before.before.before.before.before.before) x, q.1.4, q.1.0, o), λ e. clash (sym e))
+      rw v (omega (arith, (here c.before.before.before.before.before.before.before.before.before.before.before.before.before.before.before.before.before.before.before.before.before.before.before).within, (k x.forest x.tape).place, back-length c.before.before.before.before.before.before.before.before.before.before.before.before.before.before.before.before.before.before.before.before.before.before.before.args.i (inner c.before.before.before.before.before.before.before.before.before.before.before.before.before) x, q.1.4, q.1.0, o))
 
   back-node-same-length-4 : back-node-lts.Need-same-length-4 (back-node-calls t) (back-node-at t) back-node.Post
   back-node-same-length-4 c = search rules

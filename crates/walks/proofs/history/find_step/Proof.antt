@@ -48,7 +48,7 @@ same-step-requires : tie.Need-same-step-requires invariant-loop decreases-loop
 same-step-requires c κs =
     let h = c.before.before.before.before.before.before.before.before.requires.0 in
     let g = left-sibling (here c.before) c.before.loop-test.true in
-    rw c.element-at.ensures (record { key_list = h.key_list; path = h.path; tabled = h.tabled; step = h.step; step_is = h.step_is; called-as = g.name; kids = g.kids; node = g.node; bare = g.bare; tape = g.tape; once = g.once }, c.before.before.before.before.before.before.before.before.requires.1)
+    rw c.element-at.ensures (record { key_list = h.key_list; path = h.path; tabled = h.tabled; step = h.step; step_is = h.step_is; called-as = g.name; kids = g.kids; node = g.node; tape = g.tape; once = g.once }, c.before.before.before.before.before.before.before.before.requires.1)
 
 returns : tie.Need-returns invariant-loop decreases-loop
 returns c K m q l t f a b x h =

@@ -1,5 +1,5 @@
 -- `walks::retrieve::write_version` and `write_node` meet their contracts: siblings by a loop, depth by recursion; a node is written into the part
--- of the output that it is lent. Each node has 196,640 bytes of room.
+-- of the output that it is lent. Each node has 163,840 bytes of room.
 use Prim.Native.Nat.{ℕ, ◌+◌, ◌*◌, ◌-◌, ◌%◌, ◌<◌, ◌≤◌}
 use native.Mathlib.Omega.{arith}
 use mathlib.Core.Path.{◌≡◌, ap, sym, ◌∙◌}
@@ -7,7 +7,7 @@ use borrow.Author.Rules.{rules}
 use Rattle.xml.specs.Forest.{Forest}
 use Rattle.xml.specs.OverLaws.{lent_back}
 use Rattle.xml.specs.Tape.{head_at, next_at, Tape}
-use Rattle.xml.specs.TapeLaws.{Front, bytes_at, open-tag, front}
+use Rattle.xml.specs.TapeLaws.{Front, bytes_at, front}
 use Rattle.timestamp.specs.Times.{belongs}
 use Rattle.versions.specs.Timely.{Timely, timely-first, timely-rest, timely-inside}
 use Rattle.versions.specs.Rendered.{Going, node-part, open-room, going-none, going_more, going_done, going-length, text-renders, element-renders}
@@ -55,7 +55,7 @@ write-version-calls t = (least-reads.Asked, least-reads.Learnt, write-node-below
 
 abbrev write-version-Inv-loop : write-version-lts.invariant-loop
 write-version-Inv-loop src tape lo hi i out₀ at p₀ to₀ out p to =
-    (lo ≤ p) × Timely i src tape p hi × (to + 196640 * (hi - p) ≤ at + 196640 * (hi - lo)) × ((f : Forest) → Tape src tape lo hi f → Going (version_text i) src tape p hi (version_text i f) out₀ at to out)
+    (lo ≤ p) × Timely i src tape p hi × (to + 163840 * (hi - p) ≤ at + 163840 * (hi - lo)) × ((f : Forest) → Tape src tape lo hi f → Going (version_text i) src tape p hi (version_text i f) out₀ at to out)
 
 abbrev write-version-μ-loop : write-version-lts.decreases-loop
 write-version-μ-loop src tape lo hi i out₀ at p₀ to₀ out p to = hi - p
@@ -87,14 +87,7 @@ module _ (t : ℕ) where
       text-renders (version-pieces c.before.before.before.before.before.before.before.before.before.before.args.i) c.before.before.before.before.before.before.before.before.before.before.requires.1.0 (rw v at c.before.before.before.before.if1.true) (rw v at c.before.before.put-text.ensures)
 
   write-node-put-open-requires : write-node-lts.Need-put-open-requires (write-node-calls t) (write-node-at t) write-node.Post
-  write-node-put-open-requires c κs =
-      let v = c.before.before.before.before.before.view-at.ensures in
-      let q = c.before.before.before.before.before.before.before.before.before.requires in
-      let k = rw v at c.before.if2.true in
-      let h = here c.before.before.before.before.before.before.before.before.before in
-      let w = h.within in
-      let l = q.1.2 in
-      rw v (omega arith, w, omega arith, omega arith, λ _. open-tag q.1.1.tape q.1.0 k)
+  write-node-put-open-requires c κs = rw c.before.before.before.before.before.view-at.ensures (omega (arith, (here c.before.before.before.before.before.before.before.before.before).within, c.before.before.before.before.before.before.before.before.before.requires.1.2))
 
   write-node-add-write-version : write-node-lts.Need-overflow-add-write-version (write-node-calls t) (write-node-at t) write-node.Post
   write-node-add-write-version c = omega (arith, (here c.before.before.before.before.before.before.before.before.before.before.before.before).held)
@@ -103,7 +96,7 @@ module _ (t : ℕ) where
   write-node-write-version-requires c κs =
       let v = c.before.before.before.before.before.before.before.before.before.view-at.ensures in
       let k = rw v at c.before.before.before.before.before.before.before.if1.false in
-      let o = open-room c.before.before.before.before.before.before.before.before.before.before.before.before.before.requires.1.1.tape c.before.before.before.before.before.before.before.before.before.before.before.before.before.requires.1.0 (rw v at c.before.before.before.before.before.if2.true) (rw v at c.before.before.before.put-open.ensures) in
+      let o = open-room (here c.before.before.before.before.before.before.before.before.before.before.before.before.before) (rw v at c.before.before.before.put-open.ensures) in
       rw v (omega (arith, c.before.before.before.before.before.before.before.before.before.before.before.before.before.requires.0, c.before.before.before.before.before.before.before.before.before.before.before.before.before.requires.1.0), (timely-inside c.before.before.before.before.before.before.before.before.before.before.before.before.before.requires.1.1 c.before.before.before.before.before.before.before.before.before.before.before.before.before.requires.1.0 k, omega (arith, c.before.before.before.before.before.before.before.before.before.before.before.before.before.requires.1.2, c.before.before.before.before.before.before.before.before.before.before.before.before.before.requires.1.0)))
 
   write-node-put-close-requires : write-node-lts.Need-put-close-requires (write-node-calls t) (write-node-at t) write-node.Post
@@ -111,8 +104,8 @@ module _ (t : ℕ) where
       let v = c.before.before.before.before.before.before.before.before.before.before.before.before.before.view-at.ensures in
       let x = timely-inside c.before.before.before.before.before.before.before.before.before.before.before.before.before.before.before.before.before.requires.1.1 c.before.before.before.before.before.before.before.before.before.before.before.before.before.before.before.before.before.requires.1.0 (rw v at c.before.before.before.before.before.before.before.before.before.before.before.if1.false) in
       let k = rw v at c.before.before.before.write-version.ensures in
-      let o = open-room c.before.before.before.before.before.before.before.before.before.before.before.before.before.before.before.before.before.requires.1.1.tape c.before.before.before.before.before.before.before.before.before.before.before.before.before.before.before.before.before.requires.1.0 (rw v at c.before.before.before.before.before.before.before.before.before.if2.true) (rw v at c.before.before.before.before.before.before.before.put-open.ensures) in
-      rw v (omega arith, (here c.before.before.before.before.before.before.before.before.before.before.before.before.before.before.before.before.before).within, omega arith, omega (arith, (here c.before.before.before.before.before.before.before.before.before.before.before.before.before.before.before.before.before).within, (k x.forest x.tape).place, version-length c.before.before.before.before.before.before.before.before.before.before.before.before.before.before.before.before.before.args.i x.tape, c.before.before.before.before.before.before.before.before.before.before.before.before.before.before.before.before.before.requires.1.2, c.before.before.before.before.before.before.before.before.before.before.before.before.before.before.before.before.before.requires.1.0), λ _. open-tag c.before.before.before.before.before.before.before.before.before.before.before.before.before.before.before.before.before.requires.1.1.tape c.before.before.before.before.before.before.before.before.before.before.before.before.before.before.before.before.before.requires.1.0 (rw v at c.before.before.before.before.before.before.before.before.before.if2.true))
+      let o = open-room (here c.before.before.before.before.before.before.before.before.before.before.before.before.before.before.before.before.before) (rw v at c.before.before.before.before.before.before.before.put-open.ensures) in
+      rw v (omega (arith, (here c.before.before.before.before.before.before.before.before.before.before.before.before.before.before.before.before.before).within, (k x.forest x.tape).place, version-length c.before.before.before.before.before.before.before.before.before.before.before.before.before.before.before.before.before.args.i x.tape, c.before.before.before.before.before.before.before.before.before.before.before.before.before.before.before.before.before.requires.1.2, c.before.before.before.before.before.before.before.before.before.before.before.before.before.before.before.before.before.requires.1.0))
 
   write-node-same-length-2 : write-node-lts.Need-same-length-2 (write-node-calls t) (write-node-at t) write-node.Post
   write-node-same-length-2 c = search rules

@@ -47,11 +47,7 @@ add-value-run-2 : tie.Need-overflow-add-value-run-2
 add-value-run-2 c = omega (arith, name_in_lem c.before.before.before.before.before.before.args.src.now c.before.before.before.before.before.before.args.at c.before.before.before.before.before.before.args.m c.before.before.before.before.before.before.requires.0 c.before.before.before.before.before.before.requires.2)
 
 value-run-requires : tie.Need-value-run-requires
-value-run-requires c κs =
-    let a = c.before.before.before.before.before.before.args in
-    let q = sym c.before.is-quote.ensures ∙ not-false _ c.if2.false in
-    let h = quote-here a.src.now (a.at + a.m + 1) c.before.before.byte-at2.result c.before.before.byte-at2.ensures q in
-    (omega arith, q)
+value-run-requires c κs = let h = quote-here c.before.before.before.before.before.before.args.src.now (c.before.before.before.before.before.before.args.at + c.before.before.before.before.before.before.args.m + 1) c.before.before.byte-at2.result c.before.before.byte-at2.ensures (sym c.before.is-quote.ensures ∙ not-false _ c.if2.false) in omega arith
 
 enum-known-n : tie.Need-enum-known-n
 enum-known-n c = search rules

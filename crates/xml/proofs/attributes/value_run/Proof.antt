@@ -18,7 +18,7 @@ loop-holds : tie.Need-loop-init invariant-loop decreases-loop
 loop-holds c = pass-start refl (search rules)
 
 value-byte-requires : tie.Need-value-byte-requires invariant-loop decreases-loop
-value-byte-requires c κs = let w = c.before.loop.invariant in (omega arith, c.before.before.before.requires.1)
+value-byte-requires c κs = let w = c.before.loop.invariant in omega arith
 
 enum_told : tie.Need-enum-told invariant-loop decreases-loop
 enum_told c = search rules

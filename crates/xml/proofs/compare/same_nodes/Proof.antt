@@ -60,40 +60,34 @@ returns-3 c f g x y =
 
 same-meaning-requires : tie.Need-same-meaning-requires invariant-loop decreases-loop
 same-meaning-requires c κs =
-    let v = c.before.before.before.before.before.before.before.view-at.ensures in
-    let w = c.before.before.before.before.before.before.view-at2.ensures in
-    let l = left c.before.before.before.before.before.before.before.before in
-    let r = right c.before.before.before.before.before.before.before.before in
-    let k = rw (v, w) at c.before.before.before.if2.false in
-    rw (v, w) (record { le₁ = omega arith; in₁ = l.within; le₂ = omega arith; in₂ = r.within }, omega arith, omega arith, λ e. (l.tagged e, r.tagged (sym k ∙ e)))
+    rw (c.before.before.before.before.before.before.before.before.view-at.ensures, c.before.before.before.before.before.before.before.view-at2.ensures)
+    (record { le₁ = omega arith; in₁ = (left c.before.before.before.before.before.before.before.before.before).within; le₂ = omega arith; in₂ = (right c.before.before.before.before.before.before.before.before.before).within })
 
 returns-4 : tie.Need-returns-4 invariant-loop decreases-loop
 returns-4 c f g x y =
-    let test = rw (c.before.before.before.before.before.before.before.before.before.view-at.ensures, c.before.before.before.before.before.before.before.before.view-at2.ensures) at c.before.same-meaning.ensures in
-    let l = c.before.before.before.before.before.before.before.before.before.before.before.loop in
-    sym (apart x y l.i l.j l.invariant.0 c.before.before.before.before.before.before.before.before.before.before.loop-test.true l.invariant.2 l.invariant.3 (λ a. same_not _ _ (sym test ∙ not-true _ c.if4.true) a.says))
+    let test = rw (c.before.before.before.before.before.before.before.before.before.before.view-at.ensures, c.before.before.before.before.before.before.before.before.before.view-at2.ensures) at c.before.same-meaning.ensures in
+    sym (apart x y c.before.before.before.before.before.before.before.before.before.before.before.before.loop.i c.before.before.before.before.before.before.before.before.before.before.before.before.loop.j c.before.before.before.before.before.before.before.before.before.before.before.before.loop.invariant.0 c.before.before.before.before.before.before.before.before.before.before.before.loop-test.true c.before.before.before.before.before.before.before.before.before.before.before.before.loop.invariant.2 c.before.before.before.before.before.before.before.before.before.before.before.before.loop.invariant.3 (λ a. same_not _ _ (sym test ∙ not-true _ c.if4.true) a.says))
 
 add-i : tie.Need-overflow-add-i invariant-loop decreases-loop
-add-i c = omega (arith, c.before.before.before.before.before.before.before.before.before.before.before.before.before.before.before.before.before.ranges, c.before.before.before.before.before.before.before.before.before.before.before.before.before.before.before.before.before.well-formed, (left c.before.before.before.before.before.before.before.before.before.before).held)
+add-i c = omega (arith, c.before.before.before.before.before.before.before.before.before.before.before.before.before.before.before.before.before.before.ranges, c.before.before.before.before.before.before.before.before.before.before.before.before.before.before.before.before.before.before.well-formed, (left c.before.before.before.before.before.before.before.before.before.before.before).held)
 
 add-j : tie.Need-overflow-add-j invariant-loop decreases-loop
-add-j c = omega (arith, c.before.before.before.before.before.before.before.before.before.before.before.before.before.before.before.before.before.ranges, c.before.before.before.before.before.before.before.before.before.before.before.before.before.before.before.before.before.well-formed, (right c.before.before.before.before.before.before.before.before.before.before).held)
+add-j c = omega (arith, c.before.before.before.before.before.before.before.before.before.before.before.before.before.before.before.before.before.before.ranges, c.before.before.before.before.before.before.before.before.before.before.before.before.before.before.before.before.before.before.well-formed, (right c.before.before.before.before.before.before.before.before.before.before.before).held)
 
 loop-less : tie.Need-loop-smaller invariant-loop decreases-loop
 loop-less c = omega arith
 
 loop-again : tie.Need-loop-preserved invariant-loop decreases-loop
 loop-again c =
-    let v = c.before.before.before.before.before.before.before.before.before.view-at.ensures in
-    let w = c.before.before.before.before.before.before.before.before.view-at2.ensures in
-    let l = c.before.before.before.before.before.before.before.before.before.before.before.loop in
+    let v = c.before.before.before.before.before.before.before.before.before.before.view-at.ensures in
+    let w = c.before.before.before.before.before.before.before.before.before.view-at2.ensures in
     let test = rw (v, w) at c.before.same-meaning.ensures in (
-      omega (arith, l.invariant.0),
+      omega (arith, c.before.before.before.before.before.before.before.before.before.before.before.before.loop.invariant.0),
       omega arith,
-      omega (arith, l.invariant.2),
-      omega (arith, l.invariant.3),
-      agree-more l.i l.j l.invariant.2 l.invariant.3 l.invariant.4
-          (record { kind = rw (v, w) at c.before.before.before.before.before.if2.false; far = rw (v, w) at c.before.before.if3.false; says = same-is _ _ (sym test ∙ not-false _ c.if4.false) }),
+      omega (arith, c.before.before.before.before.before.before.before.before.before.before.before.before.loop.invariant.2),
+      omega (arith, c.before.before.before.before.before.before.before.before.before.before.before.before.loop.invariant.3),
+      agree-more c.before.before.before.before.before.before.before.before.before.before.before.before.loop.i c.before.before.before.before.before.before.before.before.before.before.before.before.loop.j c.before.before.before.before.before.before.before.before.before.before.before.before.loop.invariant.2 c.before.before.before.before.before.before.before.before.before.before.before.before.loop.invariant.3 c.before.before.before.before.before.before.before.before.before.before.before.before.loop.invariant.4
+          (record { kind = rw (v, w) at c.before.before.before.before.before.before.if2.false; far = rw (v, w) at c.before.before.before.if3.false; says = same-is _ _ (sym test ∙ not-false _ c.if4.false) }),
     )
 
 returns-5 : tie.Need-returns-5 invariant-loop decreases-loop

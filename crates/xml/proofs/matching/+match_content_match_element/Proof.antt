@@ -1,17 +1,13 @@
 -- `xml::matching::match_content` and `xml::matching::match_element` meet their contracts: they call each other, and the nodes that are left fall.
 -- Of the siblings, those from p on are to stand at the place where the loop has come to. Assumes nothing.
 use native.Mathlib.Omega.{arith}
-use mathlib.Core.Path.{◌≡◌, sym, ◌∙◌}
-use mathlib.Core.Bool.{true}
-use lib.Dec.{eqb}
-use borrow.Author.Tests.{eqb-true}
+use mathlib.Core.Path.{sym, ◌∙◌}
 use lib.ListN.{length}
 use Rattle.xml.specs.Forest.{Forest, write}
 use Rattle.xml.specs.MatchingLaws.{Due, match-fits, match-past, match-then, due-none, due-more, due-done, text-matches}
-use Rattle.xml.specs.Tape.{Tape, head_at, next_at}
-use Rattle.xml.specs.TagParts.{IsTag}
-use Rattle.xml.specs.TapeLaws.{Front, Inner, Split, bytes_at, meant-by, open-tag, front, inner-node, split}
-use Prim.Native.Nat.{ℕ, ◌+◌, ◌*◌, ◌-◌, ◌%◌, ◌<◌, ◌≤◌}
+use Rattle.xml.specs.Tape.{Tape, next_at}
+use Rattle.xml.specs.TapeLaws.{Front, Inner, Split, front, inner-node, split}
+use Prim.Native.Nat.{ℕ, ◌+◌, ◌*◌, ◌-◌, ◌<◌, ◌≤◌}
 use borrow.Fn.Kinds.{In}
 use borrow.Fn.PlainCycle.{Measures, is, falls, and}
 use Rattle.xml.proofs.matching.match_content.Reads as match-content
@@ -117,14 +113,11 @@ module _ (t : ℕ) where
   inner : (c : match-element-lts.Start (match-element-calls t) (match-element-at t) match-element.Post) → Inner c.args.src.now c.args.tape.now c.args.p c.requires.1.4.forest
   inner c = inner-node c.requires.1.4.tape c.requires.1.2 c.requires.1.3
 
-  tagged : (c : match-element-lts.Start (match-element-calls t) (match-element-at t) match-element.Post) → eqb (head_at c.args.tape.now c.args.p % 4) 1 ≡ true → IsTag (bytes_at c.args.src.now c.args.tape.now c.args.p)
-  tagged c e = open-tag c.requires.1.4.tape c.requires.1.2 (eqb-true _ 1 e)
-
   match-element-view-at-requires : match-element-lts.Need-view-at-requires (match-element-calls t) (match-element-at t) match-element.Post
   match-element-view-at-requires c κs = (here c.before.before).held
 
   match-element-match-open-requires : match-element-lts.Need-match-open-requires (match-element-calls t) (match-element-at t) match-element.Post
-  match-element-match-open-requires c κs = rw c.before.view-at.ensures (c.before.before.before.before.requires.1.0, c.before.before.before.before.requires.1.1, omega arith, (here c.before.before.before.before).within, tagged c.before.before.before.before)
+  match-element-match-open-requires c κs = rw c.before.view-at.ensures (c.before.before.before.before.requires.1.0, c.before.before.before.before.requires.1.1, omega arith, (here c.before.before.before.before).within)
 
   match-element-add-match-content : match-element-lts.Need-overflow-add-match-content (match-element-calls t) (match-element-at t) match-element.Post
   match-element-add-match-content c = omega (arith, (here c.before.before.before.before.before).held)
@@ -142,16 +135,15 @@ module _ (t : ℕ) where
       let i = inner c.before.before.before.before.before.before.before in
       let k = rw v at c.before.match-content.ensures in
       let m = match-fits s c.before.before.match-open.result _ (k i.kids i.tape) (match-fits s c.before.before.before.before.before.before.before.args.at _ c.before.before.match-open.ensures c.before.before.before.before.before.before.before.requires.1.0) in
-      rw v (m, c.before.before.before.before.before.before.before.requires.1.1, omega arith, (here c.before.before.before.before.before.before.before).within, tagged c.before.before.before.before.before.before.before)
+      rw v (m, c.before.before.before.before.before.before.before.requires.1.1, omega arith, (here c.before.before.before.before.before.before.before).within)
 
   match-element-returns : match-element-lts.Need-returns (match-element-calls t) (match-element-at t) match-element.Post
   match-element-returns c f h =
       let v = c.before.before.before.before.before.view-at.ensures in
       let a = c.before.before.before.before.before.before.before.before.args in
-      let m = meant-by (head_at a.tape.now a.p % 4) (bytes_at a.src.now a.tape.now a.p) c.before.before.before.before.before.before.before.before.requires.1.3 in
       let i = inner-node h c.before.before.before.before.before.before.before.before.requires.1.2 c.before.before.before.before.before.before.before.before.requires.1.3 in
       let k = rw v at c.before.before.match-content.ensures in
-      rw i.written (match-then a.src.now a.at _ _ (match-then a.src.now a.at _ _ (rw (v, m) at c.before.before.before.match-open.ensures) (k i.kids i.tape)) (rw (v, m) at c.match-close.ensures))
+      rw i.written (match-then a.src.now a.at _ _ (match-then a.src.now a.at _ _ (rw v at c.before.before.before.match-open.ensures) (k i.kids i.tape)) (rw v at c.match-close.ensures))
 
 pub +match-content-match-element-spec : {M : Type 1} → statement M
 +match-content-match-element-spec =

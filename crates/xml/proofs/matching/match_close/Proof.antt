@@ -1,16 +1,10 @@
 -- `xml::matching::match_close` meets its contract: three pieces, or one. Assumes nothing.
-use native.Mathlib.Omega.{arith}
 use Rattle.xml.specs.Bytes.{bytes}
 use Rattle.xml.specs.MatchingLaws.{match-fits, match-then}
 use Rattle.xml.specs.TapeLaws.{closing}
-use Rattle.xml.proofs.PartTags.{NameIn, lent-tag, name_in_lem}
 use borrow.Author.Rules.{rules}
 use Rattle.xml.proofs.matching.match_close.Statement.{statement}
 use Rattle.xml.proofs.matching.match_close.Tie as tie
-
--- the bytes of its name
-name : (c : tie.After-name-end) → NameIn c.before.before.before.before.before.before.args.src.now c.before.before.before.before.before.before.args.a c.before.before.before.before.before.before.args.e c.name-end.result
-name c = let a = c.before.before.before.before.before.before.args in let h = c.before.before.before.before.before.before.requires in name_in_lem a.src.now a.a a.e h.2 h.3 (h.4 c.before.before.before.before.if1.true) c.name-end.ensures
 
 slice-aggregate-match-word : tie.Need-slice-aggregate-match-word
 slice-aggregate-match-word c = search rules
@@ -18,35 +12,20 @@ slice-aggregate-match-word c = search rules
 match-word-requires : tie.Need-match-word-requires
 match-word-requires c κs = search rules
 
-sub-name-end : tie.Need-overflow-sub-name-end
-sub-name-end c = search rules
-
-part-name-end-start : tie.Need-slice-bounds-name-end-start
-part-name-end-start c = search rules
-
-part-name-end-end : tie.Need-slice-bounds-name-end-end
-part-name-end-end c = search rules
-
-name-end-requires : tie.Need-name-end-requires
-name-end-requires c κs = let a = c.before.before.before.before.before.args in let h = c.before.before.before.before.before.requires in lent-tag a.src.now a.a a.e h.2 h.3 (h.4 c.before.before.before.if1.true) (omega arith)
-
-add-match-part : tie.Need-overflow-add-match-part
-add-match-part c = omega (arith, (name c).inside, c.before.before.before.before.before.before.requires.3)
-
 match-part-requires : tie.Need-match-part-requires
-match-part-requires c κs = let a = c.before.before.before.before.before.before.args in let h = c.before.before.before.before.before.before.requires in let i = (name c).inside in (match-fits a.src.now a.at _ c.before.before.match-word.ensures h.0, h.1, omega arith, omega arith)
+match-part-requires c κs = let a = c.before.before.before.before.args in let h = c.before.before.before.before.requires in (match-fits a.src.now a.at _ c.match-word.ensures h.0, h.1, h.2, h.3)
 
 slice-aggregate-match-word-2 : tie.Need-slice-aggregate-match-word-2
 slice-aggregate-match-word-2 c = search rules
 
 match-word-requires-2 : tie.Need-match-word-requires-2
-match-word-requires-2 c κs = let a = c.before.before.before.before.before.before.before.before.args in let h = c.before.before.before.before.before.before.before.before.requires in (match-fits a.src.now _ _ c.before.match-part.ensures (match-fits a.src.now a.at _ c.before.before.before.before.match-word.ensures h.0), h.1)
+match-word-requires-2 c κs = let a = c.before.before.before.before.before.before.args in let h = c.before.before.before.before.before.before.requires in (match-fits a.src.now _ _ c.before.match-part.ensures (match-fits a.src.now a.at _ c.before.before.match-word.ensures h.0), h.1)
 
 returns : tie.Need-returns
 unfolding closing bytes
 returns c =
-    let a = c.before.before.before.before.before.before.before.before.before.args in
-    rw c.before.before.before.before.before.before.before.if1.true (match-then a.src.now a.at _ _ (match-then a.src.now a.at _ _ c.before.before.before.before.before.match-word.ensures (rw (name c.before.before.before).named at c.before.before.match-part.ensures)) c.match-word2.ensures)
+    let a = c.before.before.before.before.before.before.before.args in
+    rw c.before.before.before.before.before.if1.true (match-then a.src.now a.at _ _ (match-then a.src.now a.at _ _ c.before.before.before.match-word.ensures c.before.before.match-part.ensures) c.match-word2.ensures)
 
 slice-aggregate-match-word-3 : tie.Need-slice-aggregate-match-word-3
 slice-aggregate-match-word-3 c = search rules
@@ -64,11 +43,6 @@ match-close-spec =
     (tie.spec
     slice-aggregate-match-word
     match-word-requires
-    sub-name-end
-    part-name-end-start
-    part-name-end-end
-    name-end-requires
-    add-match-part
     match-part-requires
     slice-aggregate-match-word-2
     match-word-requires-2

@@ -13,7 +13,7 @@ match-word-requires : tie.Need-match-word-requires
 match-word-requires c κs = search rules
 
 match-tag-requires : tie.Need-match-tag-requires
-match-tag-requires c κs = let a = c.before.before.before.before.args in let h = c.before.before.before.before.requires in (match-fits a.src.now a.at _ c.match-word.ensures h.0, h.1, h.2, h.3, h.4 c.before.before.if1.true)
+match-tag-requires c κs = let a = c.before.before.before.before.args in let h = c.before.before.before.before.requires in (match-fits a.src.now a.at _ c.match-word.ensures h.0, h.1, h.2, h.3)
 
 slice-aggregate-match-word-2 : tie.Need-slice-aggregate-match-word-2
 slice-aggregate-match-word-2 c = search rules

@@ -5,7 +5,7 @@ use mathlib.Core.Path.{subst}
 use lib.Seq.{slice}
 use Rattle.xml.specs.Bytes.{Bytes}
 use Rattle.xml.specs.NameCells.{Parted}
-use Rattle.xml.specs.NameCellLaws.{noted_more, put, put-below}
+use Rattle.xml.specs.NameCellLaws.{noted_more, put-below}
 use borrow.Author.Rules.{rules}
 use Rattle.xml.proofs.Tags.{part-is}
 use Rattle.xml.proofs.names.note.Statement.{statement}
@@ -70,7 +70,6 @@ returns c =
     let g = c.before.before.before.before.before.before.before.before.before.requires in (
       λ used n. noted_more a.start a.count g.2 g.3 g.1 (g.5 used n) (sought c) c.before.before.shift.ensures n,
       put-below _ c.before.before.before.before.names-before.ensures.high g.1 c.before.before.shift.ensures,
-      (c.before.before.before.before.names-before.result, put _ c.before.before.before.before.names-before.ensures.high g.1 c.before.before.shift.ensures),
     )
 
 pub note-spec : {M : Type 1} → statement M

@@ -1,11 +1,11 @@
 -- `xml::reader::open_tag` meets its contract: a law for each answer of the scanner (Turns). Assumes nothing.
 use mathlib.Core.Path.{subst}
-use Prim.Native.Nat.{◌+◌, ◌*◌}
+use Prim.Native.Nat.{◌+◌}
 use native.Mathlib.Omega.{arith}
-use lib.ListN.{length, drop}
-use Rattle.xml.specs.TagsRead.{Started}
+use lib.ListN.{drop}
+use Rattle.xml.specs.Tokens.{StartRead}
 use Rattle.xml.proofs.Steps.{top-le}
-use Rattle.xml.proofs.Turns.{opening-below, open_full, open-bad, bad-in, opens_in, lone-in, timed-in, opens-good, lone-good, timed-good}
+use Rattle.xml.proofs.Turns.{open-bad, bad-in, opens_in, lone-in, timed-in, opens-good, lone-good, timed-good}
 use borrow.Author.Rules.{rules}
 use Rattle.xml.proofs.reader.open_tag.Statement.{statement}
 use Rattle.xml.proofs.reader.open_tag.Tie as tie
@@ -13,20 +13,14 @@ use Rattle.xml.proofs.reader.open_tag.Tie as tie
 add-start-tag : tie.Need-overflow-add-start-tag
 add-start-tag c = search rules
 
-mul-start-tag : tie.Need-overflow-mul-start-tag
-mul-start-tag c = omega (arith, c.before.before.before.requires.reading.few, c.before.before.before.requires.reading.short, c.before.before.before.requires.here)
-
 start-tag-requires : tie.Need-start-tag-requires
-start-tag-requires c κs = (omega (arith, c.before.before.before.requires.here), c.before.before.before.requires.reading.short, c.before.before.before.requires.reading.room)
-
-enum_told : tie.Need-enum-told
-enum_told c = search rules
+start-tag-requires c κs = search rules
 
 enum-known-k : tie.Need-enum-known-k
 enum-known-k c = search rules
 
-add-t17 : tie.Need-overflow-add-t17
-add-t17 c = omega (arith, bad-in (opening-below c.before.before.before.before.before.before.before.before.before.requires c.before.before.before.before.before.start-tag.ensures.0) c.before.k.given.0.0 (subst (Started c.before.before.before.before.before.before.before.before.before.args.archive (drop (c.before.before.before.before.before.before.before.before.before.args.at + 1) c.before.before.before.before.before.before.before.before.before.args.src.now) (length c.before.before.before.before.before.before.before.before.before.args.tape.now) (2 * c.before.before.before.before.before.before.before.before.before.args.count)) c.before.k.given.1 c.before.before.before.before.before.start-tag.ensures.1), c.before.before.before.before.before.before.before.before.before.requires.reading.short)
+add-t14 : tie.Need-overflow-add-t14
+add-t14 c = omega (arith, bad-in c.before.before.before.before.before.before.requires c.before.k.given.0.0 (subst (StartRead c.before.before.before.before.before.before.args.archive (drop (c.before.before.before.before.before.before.args.at + 1) c.before.before.before.before.before.before.args.src.now)) c.before.k.given.1 c.before.before.before.start-tag.ensures), c.before.before.before.before.before.before.requires.reading.short)
 
 enum-known-n : tie.Need-enum-known-n
 enum-known-n c = search rules
@@ -35,7 +29,7 @@ add-head : tie.Need-overflow-add-head
 add-head c = search rules
 
 head-requires : tie.Need-head-requires
-head-requires c κs = omega (arith, opens_in (opening-below c.before.before.before.before.before.before.before.before.before.before.requires c.before.before.before.before.before.before.start-tag.ensures.0) c.before.before.n.given.0.0 (subst (Started c.before.before.before.before.before.before.before.before.before.before.args.archive (drop (c.before.before.before.before.before.before.before.before.before.before.args.at + 1) c.before.before.before.before.before.before.before.before.before.before.args.src.now) (length c.before.before.before.before.before.before.before.before.before.before.args.tape.now) (2 * c.before.before.before.before.before.before.before.before.before.before.args.count)) c.before.before.n.given.1 c.before.before.before.before.before.before.start-tag.ensures.1), c.before.before.before.before.before.before.before.before.before.before.requires.reading.short)
+head-requires c κs = omega (arith, opens_in c.before.before.before.before.before.before.before.requires c.before.before.n.given.0.0 (subst (StartRead c.before.before.before.before.before.before.before.args.archive (drop (c.before.before.before.before.before.before.before.args.at + 1) c.before.before.before.before.before.before.before.args.src.now)) c.before.before.n.given.1 c.before.before.before.before.start-tag.ensures), c.before.before.before.before.before.before.before.requires.reading.short)
 
 add-node : tie.Need-overflow-add-node
 add-node c = search rules
@@ -47,7 +41,7 @@ add-node-3 : tie.Need-overflow-add-node-3
 add-node-3 c = search rules
 
 node-requires : tie.Need-node-requires
-node-requires c κs = omega (arith, top-le c.before.before.before.before.before.before.before.before.before.before.before.requires.reading c.before.before.before.before.before.before.before.before.before.before.before.requires.here, c.before.before.before.before.before.before.before.before.before.before.before.requires.reading.few, c.before.before.before.before.before.before.before.before.before.before.before.requires.reading.short, c.before.before.before.before.before.before.before.before.before.before.before.requires.here)
+node-requires c κs = omega (arith, top-le c.before.before.before.before.before.before.before.before.requires.reading c.before.before.before.before.before.before.before.before.requires.here, c.before.before.before.before.before.before.before.before.requires.reading.few, c.before.before.before.before.before.before.before.before.requires.reading.short, c.before.before.before.before.before.before.before.before.requires.here)
 
 enum-known-n-2 : tie.Need-enum-known-n-2
 enum-known-n-2 c = search rules
@@ -56,7 +50,7 @@ add-head-2 : tie.Need-overflow-add-head-2
 add-head-2 c = search rules
 
 head-requires-2 : tie.Need-head-requires-2
-head-requires-2 c κs = omega (arith, lone-in (opening-below c.before.before.before.before.before.before.before.before.before.before.requires c.before.before.before.before.before.before.start-tag.ensures.0) c.before.before.n2.given.0.0 (subst (Started c.before.before.before.before.before.before.before.before.before.before.args.archive (drop (c.before.before.before.before.before.before.before.before.before.before.args.at + 1) c.before.before.before.before.before.before.before.before.before.before.args.src.now) (length c.before.before.before.before.before.before.before.before.before.before.args.tape.now) (2 * c.before.before.before.before.before.before.before.before.before.before.args.count)) c.before.before.n2.given.1 c.before.before.before.before.before.before.start-tag.ensures.1), c.before.before.before.before.before.before.before.before.before.before.requires.reading.short)
+head-requires-2 c κs = omega (arith, lone-in c.before.before.before.before.before.before.before.requires c.before.before.n2.given.0.0 (subst (StartRead c.before.before.before.before.before.before.before.args.archive (drop (c.before.before.before.before.before.before.before.args.at + 1) c.before.before.before.before.before.before.before.args.src.now)) c.before.before.n2.given.1 c.before.before.before.before.start-tag.ensures), c.before.before.before.before.before.before.before.requires.reading.short)
 
 add-node-4 : tie.Need-overflow-add-node-4
 add-node-4 c = search rules
@@ -68,7 +62,7 @@ add-node-6 : tie.Need-overflow-add-node-6
 add-node-6 c = search rules
 
 node-requires-2 : tie.Need-node-requires-2
-node-requires-2 c κs = omega (arith, top-le c.before.before.before.before.before.before.before.before.before.before.before.requires.reading c.before.before.before.before.before.before.before.before.before.before.before.requires.here, c.before.before.before.before.before.before.before.before.before.before.before.requires.reading.few, c.before.before.before.before.before.before.before.before.before.before.before.requires.reading.short, c.before.before.before.before.before.before.before.before.before.before.before.requires.here)
+node-requires-2 c κs = search rules
 
 enum-known-n-3 : tie.Need-enum-known-n-3
 enum-known-n-3 c = search rules
@@ -77,7 +71,7 @@ add-head-3 : tie.Need-overflow-add-head-3
 add-head-3 c = search rules
 
 head-requires-3 : tie.Need-head-requires-3
-head-requires-3 c κs = omega (arith, timed-in (opening-below c.before.before.before.before.before.before.before.before.before.before.requires c.before.before.before.before.before.before.start-tag.ensures.0) c.before.before.n3.given.0.0 (subst (Started c.before.before.before.before.before.before.before.before.before.before.args.archive (drop (c.before.before.before.before.before.before.before.before.before.before.args.at + 1) c.before.before.before.before.before.before.before.before.before.before.args.src.now) (length c.before.before.before.before.before.before.before.before.before.before.args.tape.now) (2 * c.before.before.before.before.before.before.before.before.before.before.args.count)) c.before.before.n3.given.1 c.before.before.before.before.before.before.start-tag.ensures.1), c.before.before.before.before.before.before.before.before.before.before.requires.reading.short)
+head-requires-3 c κs = omega (arith, timed-in c.before.before.before.before.before.before.before.requires c.before.before.n3.given.0.0 (subst (StartRead c.before.before.before.before.before.before.before.args.archive (drop (c.before.before.before.before.before.before.before.args.at + 1) c.before.before.before.before.before.before.before.args.src.now)) c.before.before.n3.given.1 c.before.before.before.before.start-tag.ensures), c.before.before.before.before.before.before.before.requires.reading.short)
 
 add-node-7 : tie.Need-overflow-add-node-7
 add-node-7 c = search rules
@@ -89,48 +83,37 @@ add-node-9 : tie.Need-overflow-add-node-9
 add-node-9 c = search rules
 
 node-requires-3 : tie.Need-node-requires-3
-node-requires-3 c κs = omega (arith, top-le c.before.before.before.before.before.before.before.before.before.before.before.requires.reading c.before.before.before.before.before.before.before.before.before.before.before.requires.here, c.before.before.before.before.before.before.before.before.before.before.before.requires.reading.few, c.before.before.before.before.before.before.before.before.before.before.before.requires.reading.short, c.before.before.before.before.before.before.before.before.before.before.before.requires.here)
+node-requires-3 c κs = omega (arith, top-le c.before.before.before.before.before.before.before.before.requires.reading c.before.before.before.before.before.before.before.before.requires.here, c.before.before.before.before.before.before.before.before.requires.reading.few, c.before.before.before.before.before.before.before.before.requires.reading.short, c.before.before.before.before.before.before.before.before.requires.here)
+
+returns : tie.Need-returns
+returns c = open-bad c.before.before.before.before.before.before.requires c.before.k.given.0.0 (subst (StartRead c.before.before.before.before.before.before.args.archive (drop (c.before.before.before.before.before.before.args.at + 1) c.before.before.before.before.before.before.args.src.now)) c.before.k.given.1 c.before.before.before.start-tag.ensures)
 
 same_length : tie.Need-same-length
 same_length c = search rules
 
-returns : tie.Need-returns
-returns c = open_full (opening-below c.before.before.before.before.before.before.before.before.requires c.before.before.before.before.start-tag.ensures.0) c.before.before.before.before.start-tag.ensures.0.long (subst (Started c.before.before.before.before.before.before.before.before.args.archive (drop (c.before.before.before.before.before.before.before.before.args.at + 1) c.before.before.before.before.before.before.before.before.args.src.now) (length c.before.before.before.before.before.before.before.before.args.tape.now) (2 * c.before.before.before.before.before.before.before.before.args.count)) c.enum_told.given.1 c.before.before.before.before.start-tag.ensures.1)
+returns-2 : tie.Need-returns-2
+returns-2 c = opens-good c.before.before.before.before.before.before.before.before.before.before.before.requires c.before.before.before.before.before.before.n.given.0.0 (subst (StartRead c.before.before.before.before.before.before.before.before.before.before.before.args.archive (drop (c.before.before.before.before.before.before.before.before.before.before.before.args.at + 1) c.before.before.before.before.before.before.before.before.before.before.before.args.src.now)) c.before.before.before.before.before.before.n.given.1 c.before.before.before.before.before.before.before.before.start-tag.ensures) c.before.before.before.head.ensures c.before.before.node.ensures
 
 same-length-2 : tie.Need-same-length-2
 same-length-2 c = search rules
 
-returns-2 : tie.Need-returns-2
-returns-2 c = open-bad (opening-below c.before.before.before.before.before.before.before.before.before.requires c.before.before.before.before.before.start-tag.ensures.0) c.before.k.given.0.0 (subst (Started c.before.before.before.before.before.before.before.before.before.args.archive (drop (c.before.before.before.before.before.before.before.before.before.args.at + 1) c.before.before.before.before.before.before.before.before.before.args.src.now) (length c.before.before.before.before.before.before.before.before.before.args.tape.now) (2 * c.before.before.before.before.before.before.before.before.before.args.count)) c.before.k.given.1 c.before.before.before.before.before.start-tag.ensures.1)
+returns-3 : tie.Need-returns-3
+returns-3 c = lone-good c.before.before.before.before.before.before.before.before.before.before.before.requires c.before.before.before.before.before.before.n2.given.0.0 (subst (StartRead c.before.before.before.before.before.before.before.before.before.before.before.args.archive (drop (c.before.before.before.before.before.before.before.before.before.before.before.args.at + 1) c.before.before.before.before.before.before.before.before.before.before.before.args.src.now)) c.before.before.before.before.before.before.n2.given.1 c.before.before.before.before.before.before.before.before.start-tag.ensures) c.before.before.before.head2.ensures c.before.before.node2.ensures
 
 same-length-3 : tie.Need-same-length-3
 same-length-3 c = search rules
 
-returns-3 : tie.Need-returns-3
-returns-3 c = opens-good (opening-below c.before.before.before.before.before.before.before.before.before.before.before.before.before.before.requires c.before.before.before.before.before.before.before.before.before.before.start-tag.ensures.0) c.before.before.before.before.before.before.n.given.0.0 (subst (Started c.before.before.before.before.before.before.before.before.before.before.before.before.before.before.args.archive (drop (c.before.before.before.before.before.before.before.before.before.before.before.before.before.before.args.at + 1) c.before.before.before.before.before.before.before.before.before.before.before.before.before.before.args.src.now) (length c.before.before.before.before.before.before.before.before.before.before.before.before.before.before.args.tape.now) (2 * c.before.before.before.before.before.before.before.before.before.before.before.before.before.before.args.count)) c.before.before.before.before.before.before.n.given.1 c.before.before.before.before.before.before.before.before.before.before.start-tag.ensures.1) c.before.before.before.head.ensures c.before.before.node.ensures
-
-same-length-4 : tie.Need-same-length-4
-same-length-4 c = search rules
-
 returns-4 : tie.Need-returns-4
-returns-4 c = lone-good (opening-below c.before.before.before.before.before.before.before.before.before.before.before.before.before.before.requires c.before.before.before.before.before.before.before.before.before.before.start-tag.ensures.0) c.before.before.before.before.before.before.n2.given.0.0 (subst (Started c.before.before.before.before.before.before.before.before.before.before.before.before.before.before.args.archive (drop (c.before.before.before.before.before.before.before.before.before.before.before.before.before.before.args.at + 1) c.before.before.before.before.before.before.before.before.before.before.before.before.before.before.args.src.now) (length c.before.before.before.before.before.before.before.before.before.before.before.before.before.before.args.tape.now) (2 * c.before.before.before.before.before.before.before.before.before.before.before.before.before.before.args.count)) c.before.before.before.before.before.before.n2.given.1 c.before.before.before.before.before.before.before.before.before.before.start-tag.ensures.1) c.before.before.before.head2.ensures c.before.before.node2.ensures
-
-same-length-5 : tie.Need-same-length-5
-same-length-5 c = search rules
-
-returns-5 : tie.Need-returns-5
-returns-5 c = timed-good (opening-below c.before.before.before.before.before.before.before.before.before.before.before.before.before.before.requires c.before.before.before.before.before.before.before.before.before.before.start-tag.ensures.0) c.before.before.before.before.before.before.n3.given.0.0 (subst (Started c.before.before.before.before.before.before.before.before.before.before.before.before.before.before.args.archive (drop (c.before.before.before.before.before.before.before.before.before.before.before.before.before.before.args.at + 1) c.before.before.before.before.before.before.before.before.before.before.before.before.before.before.args.src.now) (length c.before.before.before.before.before.before.before.before.before.before.before.before.before.before.args.tape.now) (2 * c.before.before.before.before.before.before.before.before.before.before.before.before.before.before.args.count)) c.before.before.before.before.before.before.n3.given.1 c.before.before.before.before.before.before.before.before.before.before.start-tag.ensures.1) c.before.before.before.head3.ensures c.before.before.node3.ensures
+returns-4 c = timed-good c.before.before.before.before.before.before.before.before.before.before.before.requires c.before.before.before.before.before.before.n3.given.0.0 (subst (StartRead c.before.before.before.before.before.before.before.before.before.before.before.args.archive (drop (c.before.before.before.before.before.before.before.before.before.before.before.args.at + 1) c.before.before.before.before.before.before.before.before.before.before.before.args.src.now)) c.before.before.before.before.before.before.n3.given.1 c.before.before.before.before.before.before.before.before.start-tag.ensures) c.before.before.before.head3.ensures c.before.before.node3.ensures
 
 pub open-tag-spec : {M : Type 1} → statement M
 open-tag-spec =
     tie.close
     (tie.spec
     add-start-tag
-    mul-start-tag
     start-tag-requires
-    enum_told
     enum-known-k
-    add-t17
+    add-t14
     enum-known-n
     add-head
     head-requires
@@ -152,13 +135,10 @@ open-tag-spec =
     add-node-8
     add-node-9
     node-requires-3
-    same_length
     returns
-    same-length-2
+    same_length
     returns-2
-    same-length-3
+    same-length-2
     returns-3
-    same-length-4
-    returns-4
-    same-length-5
-    returns-5)
+    same-length-3
+    returns-4)

@@ -1,16 +1,14 @@
 -- `xml::tag::put_value` meets its contract: of the value, what stands before i is written, and the rest is left. Assumes nothing.
-use Prim.Native.Nat.{◌-◌, ◌^◌, ◌<◌, ◌≤◌}
+use Prim.Native.Nat.{◌-◌, ◌≤◌}
 use mathlib.Core.Path.{◌≡◌, ap, sym, ◌∙◌, subst}
 use native.Mathlib.Omega.{arith}
-use borrow.Author.Rules.{rules}
-use borrow.Author.Tests.{not-true}
 use lib.ListN.{length}
 use lib.Seq.{slice, length-slice}
 use Rattle.xml.specs.OverLaws.{length_at}
 use Rattle.xml.specs.SignLaws.{Meant, sign-means}
 use Rattle.xml.specs.WriteLaws.{Left, left-none, left-done, left-place}
 use Rattle.xml.specs.TagParts.{quoted}
-use Rattle.xml.specs.TagWritten.{quoted-over, length-quoted, left-value, left-plain}
+use Rattle.xml.specs.TagWritten.{quoted-over, length-quoted, left-value}
 use Rattle.xml.proofs.tag.put_value.Statement.{statement}
 use Rattle.xml.proofs.tag.put_value.Tie as tie
 
@@ -20,56 +18,24 @@ invariant-loop s a e out₀ at i₀ to₀ out i to = (i ≤ e) × Left (quoted (
 abbrev decreases-loop : tie.decreases-loop
 decreases-loop s a e out₀ at i₀ to₀ out i to = e - i
 
--- there is room at the place of this turn
-room : (c : tie.At-loop invariant-loop decreases-loop) → c.loop.to < 2 ^ 62
-room c =
-    let a = c.before.before.before.args in
-    let p = c.before.before.before.requires in
-    omega (arith, left-place c.loop.invariant.1, length-quoted (slice a.a a.e a.s.now), length-slice a.a a.e a.s.now p.1, p)
-
--- what is meant there
-meant : (c : tie.After-sign-at invariant-loop decreases-loop) → Meant c.before.before.before.before.before.before.before.before.args.s.now c.before.before.before.before.before.loop.i c.before.before.before.before.before.before.before.before.args.e c.sign_at.result
-meant c =
-    let a = c.before.before.before.before.before.before.before.before.args in
-    let i = c.before.before.before.before.before.loop.i in
-    subst (λ g. Meant a.s.now i a.e g) (sym c.sign_at.ensures) (sign-means a.s.now i a.e c.before.before.before.before.loop-test.true c.before.before.before.before.before.before.before.before.requires.1)
+-- what is meant at the place of this turn
+meant : (c : tie.After-sign-at invariant-loop decreases-loop) → Meant c.before.before.before.before.before.args.s.now c.before.before.loop.i c.before.before.before.before.before.args.e c.sign_at.result
+meant c = subst (λ g. Meant c.before.before.before.before.before.args.s.now c.before.before.loop.i c.before.before.before.before.before.args.e g) (sym c.sign_at.ensures) (sign-means c.before.before.before.before.before.args.s.now c.before.before.loop.i c.before.before.before.before.before.args.e c.before.loop-test.true c.before.before.before.before.before.requires.1)
 
 loop-holds : tie.Need-loop-init invariant-loop decreases-loop
 loop-holds c = (c.before.before.requires.0, left-none)
 
-shared-slice-read-b : tie.Need-shared-slice-read-b invariant-loop decreases-loop
-shared-slice-read-b c = omega arith
-
-is-value-mark-requires : tie.Need-is-value-mark-requires invariant-loop decreases-loop
-is-value-mark-requires c κs = search rules
-
-put-requires : tie.Need-put-requires invariant-loop decreases-loop
-put-requires c κs = omega (arith, room c.before.before.before.before.before)
-
-add-i : tie.Need-overflow-add-i invariant-loop decreases-loop
-add-i c = omega arith
-
-loop-less : tie.Need-loop-smaller invariant-loop decreases-loop
-loop-less c = omega arith
-
-loop-again : tie.Need-loop-preserved invariant-loop decreases-loop
-loop-again c =
-    let a = c.before.before.before.before.before.before.before.before.before.before.before.args in
-    let l = c.before.before.before.before.before.before.before.before.loop in
-    let h : l.i < a.e = c.before.before.before.before.before.before.before.loop-test.true in
-    (omega arith, left-plain a.s.now h c.before.before.before.before.before.before.before.before.before.before.before.requires.1 (sym c.before.before.before.before.before.is-value-mark.ensures ∙ not-true _ c.before.before.before.before.if1.true) l.invariant.1 c.before.before.put.ensures)
-
 sign-at-requires : tie.Need-sign-at-requires invariant-loop decreases-loop
-sign-at-requires c κs = (c.before.before.before.loop-test.true, c.before.before.before.before.before.before.before.requires.1)
+sign-at-requires c κs = (c.loop-test.true, c.before.before.before.before.requires.1)
 
 put-quoted-requires : tie.Need-put-quoted-requires invariant-loop decreases-loop
-put-quoted-requires c κs = room c.before.before.before.before.before.before
+put-quoted-requires c κs = let a = c.before.before.before.before.before.before.args in omega (arith, left-place c.before.before.before.loop.invariant.1, length-quoted (slice a.a a.e a.s.now), length-slice a.a a.e a.s.now c.before.before.before.before.before.before.requires.1, c.before.before.before.before.before.before.requires)
 
-loop-less-2 : tie.Need-loop-smaller-2 invariant-loop decreases-loop
-loop-less-2 c = let m = meant c.before.before.before.before in omega (arith, m.forward, m.inside, c.before.before.before.before.before.before.before.before.loop-test.true)
+loop-less : tie.Need-loop-smaller invariant-loop decreases-loop
+loop-less c = let m = meant c.before.before.before.before in omega (arith, m.forward, m.inside, c.before.before.before.before.before.loop-test.true)
 
-loop-again-2 : tie.Need-loop-preserved-2 invariant-loop decreases-loop
-loop-again-2 c = let m = meant c.before.before.before.before in (m.inside, left-value m c.before.before.before.before.before.before.before.before.before.loop.invariant.1 c.before.before.put-quoted.ensures)
+loop-again : tie.Need-loop-preserved invariant-loop decreases-loop
+loop-again c = let m = meant c.before.before.before.before in (m.inside, left-value m c.before.before.before.before.before.before.loop.invariant.1 c.before.before.put-quoted.ensures)
 
 same_length : tie.Need-same-length invariant-loop decreases-loop
 same_length c = ap length c.before.loop.invariant.1.wrote.bytes ∙ length_at _ _ _
@@ -87,15 +53,9 @@ put-value-spec =
     invariant-loop
     decreases-loop
     loop-holds
-    shared-slice-read-b
-    is-value-mark-requires
-    put-requires
-    add-i
-    loop-less
-    loop-again
     sign-at-requires
     put-quoted-requires
-    loop-less-2
-    loop-again-2
+    loop-less
+    loop-again
     same_length
     returns)

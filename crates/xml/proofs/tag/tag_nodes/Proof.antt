@@ -1,46 +1,45 @@
--- `xml::tag::tag_nodes` meets its contract: a name alone has no attributes. Assumes nothing.
+-- `xml::tag::tag_nodes` meets its contract: of a `T`, and of any other element. Assumes nothing.
+use Prim.Native.Nat.{◌+◌}
 use mathlib.Core.Path.{ap, sym, ◌∙◌}
-use lib.ListN.{length}
-use Rattle.xml.specs.BytesLaws.{same-is}
-use Rattle.xml.specs.Tags.{name_of}
-use Rattle.xml.specs.TagWritten.{bare_parts}
+use native.Mathlib.Omega.{arith}
 use borrow.Author.Rules.{rules}
+use Rattle.xml.specs.Bytes.{bytes, same}
+use Rattle.xml.specs.TagPlaces.{tag-start}
+use Rattle.xml.specs.TagSums.{name-part, nodes-T, nodes-other, parts-few}
 use Rattle.xml.proofs.tag.tag_nodes.Statement.{statement}
 use Rattle.xml.proofs.tag.tag_nodes.Tie as tie
-
-is-bare-requires : tie.Need-is-bare-requires
-is-bare-requires c κs = search rules
-
-nodes-of-requires : tie.Need-nodes-of-requires
-nodes-of-requires c κs =
-    let h = c.before.before.before.requires in
-    let s = c.before.before.before.args.s.now in
-    let e = sym c.before.is-bare.ensures ∙ c.if1.true in
-    (h.0, h.1, ap length (same-is s (name_of s) e), sym (ap length (bare_parts h.0 e)))
-
-returns : tie.Need-returns
-returns c = search rules
 
 name-end-requires : tie.Need-name-end-requires
 name-end-requires c κs = search rules
 
+is-byte-requires : tie.Need-is-byte-requires
+is-byte-requires c κs = omega (arith, (tag-start c.before.before.requires.0).inside, c.name-end.ensures)
+
+count-but-requires : tie.Need-count-but-requires
+count-but-requires c κs = search rules
+
+returns : tie.Need-returns
+unfolding bytes
+returns c = c.count-but.ensures ∙ nodes-T c.before.before.before.before.before.args.s.now (ap (λ x. same x (bytes "T")) (sym (name-part c.before.before.before.before.before.args.s.now c.before.before.before.name-end.result c.before.before.before.name-end.ensures)) ∙ sym c.before.before.is_byte_lem.ensures ∙ c.before.if1.true)
+
 attr-count-requires : tie.Need-attr-count-requires
 attr-count-requires c κs = search rules
 
-nodes-of-requires-2 : tie.Need-nodes-of-requires-2
-nodes-of-requires-2 c κs = search rules
+add-result : tie.Need-overflow-add-result
+add-result c = omega (arith, c.attr-count.ensures, parts-few c.before.before.before.before.before.args.s.now, c.before.before.before.before.before.requires.1)
 
 returns-2 : tie.Need-returns-2
-returns-2 c = search rules
+unfolding bytes
+returns-2 c = ap (λ n. 1 + n) c.attr-count.ensures ∙ nodes-other c.before.before.before.before.before.args.s.now (ap (λ x. same x (bytes "T")) (sym (name-part c.before.before.before.before.before.args.s.now c.before.before.before.name-end.result c.before.before.before.name-end.ensures)) ∙ sym c.before.before.is_byte_lem.ensures ∙ c.before.if1.false)
 
 pub tag-nodes-spec : {M : Type 1} → statement M
 tag-nodes-spec =
     tie.close
     (tie.spec
-    is-bare-requires
-    nodes-of-requires
-    returns
     name-end-requires
+    is-byte-requires
+    count-but-requires
+    returns
     attr-count-requires
-    nodes-of-requires-2
+    add-result
     returns-2)

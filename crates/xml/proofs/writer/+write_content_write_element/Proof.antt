@@ -1,19 +1,15 @@
 -- `xml::writer::write_content` and `xml::writer::write_element` meet their contracts: they call each other, and the nodes that are left fall.
 -- Of the siblings, those before p are written, and the rest is left; an element writes into the part that it is lent. Assumes nothing.
 use native.Mathlib.Omega.{arith}
-use mathlib.Core.Path.{◌≡◌, ap, sym, ◌∙◌}
-use mathlib.Core.Bool.{true}
-use lib.Dec.{eqb}
-use borrow.Author.Tests.{eqb-true}
+use mathlib.Core.Path.{ap, sym, ◌∙◌}
 use lib.ListN.{length}
 use borrow.Author.Rules.{rules}
 use Rattle.xml.specs.Forest.{Forest, write}
-use Rattle.xml.specs.Tape.{Tape, head_at, next_at}
-use Rattle.xml.specs.TagParts.{IsTag}
+use Rattle.xml.specs.Tape.{Tape, next_at}
 use Rattle.xml.specs.OverLaws.{length_at, wrote_then, lent_back}
-use Rattle.xml.specs.TapeLaws.{Front, OneRun, Rest, bytes_at, meant_at, meant_by, meant-by, open-tag, tape-room, front, inner-node, one-run, rest-none, rest_more, rest-done}
+use Rattle.xml.specs.TapeLaws.{Front, OneRun, Rest, tape-room, front, inner-node, one-run, rest-none, rest_more, rest-done}
 use Rattle.xml.specs.WriteLaws.{Fit, fit-start, inner-fit, rest-fit, run-writes, text-writes}
-use Prim.Native.Nat.{ℕ, ◌+◌, ◌*◌, ◌-◌, ◌%◌, ◌<◌, ◌≤◌}
+use Prim.Native.Nat.{ℕ, ◌+◌, ◌*◌, ◌-◌, ◌<◌, ◌≤◌}
 use borrow.Fn.Kinds.{In}
 use borrow.Fn.PlainCycle.{Measures, is, falls, and}
 use Rattle.xml.proofs.writer.write_content.Reads as write-content
@@ -133,15 +129,8 @@ module _ (t : ℕ) where
   here : (c : write-element-lts.Start (write-element-calls t) (write-element-at t) write-element.Post) → Front c.args.src.now c.args.tape.now c.args.p (next_at c.args.tape.now c.args.p)
   here c = front c.requires.1.2.tape c.requires.1.0
 
-  tagged : (c : write-element-lts.Start (write-element-calls t) (write-element-at t) write-element.Post) → eqb (head_at c.args.tape.now c.args.p % 4) 1 ≡ true → IsTag (bytes_at c.args.src.now c.args.tape.now c.args.p)
-  tagged c e = open-tag c.requires.1.2.tape c.requires.1.0 (eqb-true _ 1 e)
-
-  -- what the bytes that name it mean
-  meant : (c : write-element-lts.Start (write-element-calls t) (write-element-at t) write-element.Post) → meant_by (eqb (head_at c.args.tape.now c.args.p % 4) 1) (bytes_at c.args.src.now c.args.tape.now c.args.p) ≡ meant_at c.args.src.now c.args.tape.now c.args.p
-  meant c = meant-by _ _ c.requires.1.1
-
   inside : (c : write-element-lts.After-put-open (write-element-calls t) (write-element-at t) write-element.Post) → Fit c.before.before.before.before.before.before.before.args.src.now c.before.before.before.before.before.before.before.args.tape.now (c.before.before.before.before.before.before.before.args.p + 1) (next_at c.before.before.before.before.before.before.before.args.tape.now c.before.before.before.before.before.before.before.args.p) c.put-open.result
-  inside c = inner-fit c.before.before.before.before.before.before.before.requires.1.2 (inner-node c.before.before.before.before.before.before.before.requires.1.2.tape c.before.before.before.before.before.before.before.requires.1.0 c.before.before.before.before.before.before.before.requires.1.1) (rw (c.before.before.before.view-at.ensures, meant c.before.before.before.before.before.before.before) at c.put-open.ensures)
+  inside c = inner-fit c.before.before.before.before.before.before.before.requires.1.2 (inner-node c.before.before.before.before.before.before.before.requires.1.2.tape c.before.before.before.before.before.before.before.requires.1.0 c.before.before.before.before.before.before.before.requires.1.1) (rw c.before.before.before.view-at.ensures at c.put-open.ensures)
 
   -- the run that it holds alone
   run : (c : write-element-lts.Then1 (write-element-calls t) (write-element-at t) write-element.Post) → OneRun c.before.before.before.before.before.before.before.before.before.before.before.args.src.now c.before.before.before.before.before.before.before.before.before.before.before.args.tape.now (c.before.before.before.before.before.before.before.before.before.before.before.args.p + 1) (next_at c.before.before.before.before.before.before.before.before.before.before.before.args.tape.now c.before.before.before.before.before.before.before.before.before.before.before.args.p)
@@ -151,7 +140,7 @@ module _ (t : ℕ) where
   write-element-view-at-requires c κs = (here c.before.before.before).held
 
   write-element-put-open-requires : write-element-lts.Need-put-open-requires (write-element-calls t) (write-element-at t) write-element.Post
-  write-element-put-open-requires c κs = rw c.before.before.view-at.ensures (omega arith, (here c.before.before.before.before.before.before).within, omega arith, omega arith, tagged c.before.before.before.before.before.before)
+  write-element-put-open-requires c κs = rw c.before.before.view-at.ensures (omega (arith, (here c.before.before.before.before.before.before).within))
 
   write-element-add-is-run : write-element-lts.Need-overflow-add-is-run (write-element-calls t) (write-element-at t) write-element.Post
   write-element-add-is-run c = omega (arith, (here c.before.before.before.before.before.before.before.before.before).held)
@@ -175,7 +164,7 @@ module _ (t : ℕ) where
   write-element-put-close-requires c κs =
       let g = inside c.before.before.before.before.before.before.before.before.before.before.before in
       let k = run-writes (run c.before.before.before.before.before.before.before) (rw c.before.before.before.before.before.before.view-at2.ensures at c.before.before.before.before.put-text.ensures) in
-      rw c.before.before.before.before.before.before.before.before.before.before.before.before.before.before.view-at.ensures (omega arith, (here c.before.before.before.before.before.before.before.before.before.before.before.before.before.before.before.before.before.before).within, omega arith, omega (arith, g.room, (k g.forest g.tape).place), tagged c.before.before.before.before.before.before.before.before.before.before.before.before.before.before.before.before.before.before)
+      rw c.before.before.before.before.before.before.before.before.before.before.before.before.before.before.view-at.ensures (omega (arith, (here c.before.before.before.before.before.before.before.before.before.before.before.before.before.before.before.before.before.before).within, g.room, (k g.forest g.tape).place))
 
   write-element-same-length : write-element-lts.Need-same-length (write-element-calls t) (write-element-at t) write-element.Post
   write-element-same-length c = search rules
@@ -183,10 +172,9 @@ module _ (t : ℕ) where
   write-element-returns : write-element-lts.Need-returns (write-element-calls t) (write-element-at t) write-element.Post
   write-element-returns c f h =
       let v = c.before.before.before.before.before.before.before.before.before.before.before.before.before.before.before.before.before.view-at.ensures in
-      let m = meant c.before.before.before.before.before.before.before.before.before.before.before.before.before.before.before.before.before.before.before.before.before in
       let i = inner-node h c.before.before.before.before.before.before.before.before.before.before.before.before.before.before.before.before.before.before.before.before.before.requires.1.0 c.before.before.before.before.before.before.before.before.before.before.before.before.before.before.before.before.before.before.before.before.before.requires.1.1 in
       let k = run-writes (run c.before.before.before.before.before.before.before.before.before.before) (rw c.before.before.before.before.before.before.before.before.before.view-at2.ensures at c.before.before.before.before.before.before.before.put-text.ensures) in
-      rw i.written (wrote_then (wrote_then (rw (v, m) at c.before.before.before.before.before.before.before.before.before.before.before.before.before.before.put-open.ensures) (k i.kids i.tape)) (rw (v, m) at c.before.before.put-close.ensures))
+      rw i.written (wrote_then (wrote_then (rw v at c.before.before.before.before.before.before.before.before.before.before.before.before.before.before.put-open.ensures) (k i.kids i.tape)) (rw v at c.before.before.put-close.ensures))
 
   write-element-add-write-content : write-element-lts.Need-overflow-add-write-content (write-element-calls t) (write-element-at t) write-element.Post
   write-element-add-write-content c = omega (arith, (here c.before.before.before.before.before.before.before.before.before.before.before).held)
@@ -199,7 +187,7 @@ module _ (t : ℕ) where
       let v = c.before.before.before.before.before.before.before.before.before.before.before.before.before.view-at.ensures in
       let g = inside c.before.before.before.before.before.before.before.before.before.before in
       let k = rw v at c.before.before.before.before.write-content.ensures in
-      rw v (omega arith, (here c.before.before.before.before.before.before.before.before.before.before.before.before.before.before.before.before.before).within, omega arith, omega (arith, g.room, (k g.forest g.tape).place), tagged c.before.before.before.before.before.before.before.before.before.before.before.before.before.before.before.before.before)
+      rw v (omega (arith, (here c.before.before.before.before.before.before.before.before.before.before.before.before.before.before.before.before.before).within, g.room, (k g.forest g.tape).place))
 
   write-element-same-length-2 : write-element-lts.Need-same-length-2 (write-element-calls t) (write-element-at t) write-element.Post
   write-element-same-length-2 c = search rules
@@ -207,10 +195,9 @@ module _ (t : ℕ) where
   write-element-returns-2 : write-element-lts.Need-returns-2 (write-element-calls t) (write-element-at t) write-element.Post
   write-element-returns-2 c f h =
       let v = c.before.before.before.before.before.before.before.before.before.before.before.before.before.before.before.before.view-at.ensures in
-      let m = meant c.before.before.before.before.before.before.before.before.before.before.before.before.before.before.before.before.before.before.before.before in
       let i = inner-node h c.before.before.before.before.before.before.before.before.before.before.before.before.before.before.before.before.before.before.before.before.requires.1.0 c.before.before.before.before.before.before.before.before.before.before.before.before.before.before.before.before.before.before.before.before.requires.1.1 in
       let k = rw v at c.before.before.before.before.before.before.before.write-content.ensures in
-      rw i.written (wrote_then (wrote_then (rw (v, m) at c.before.before.before.before.before.before.before.before.before.before.before.before.before.put-open.ensures) (k i.kids i.tape)) (rw (v, m) at c.before.before.put-close2.ensures))
+      rw i.written (wrote_then (wrote_then (rw v at c.before.before.before.before.before.before.before.before.before.before.before.before.before.put-open.ensures) (k i.kids i.tape)) (rw v at c.before.before.put-close2.ensures))
 
 pub +write-content-write-element-spec : {M : Type 1} → statement M
 +write-content-write-element-spec =
