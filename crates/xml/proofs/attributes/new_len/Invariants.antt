@@ -1,0 +1,17 @@
+-- `xml::attributes::new_len` meets its contract. The invariant: n bytes begin a new name, and stand in the array. Assumes nothing.
+use Prim.Native.Nat.{◌+◌, ◌-◌, ◌≤◌}
+use native.Mathlib.Omega.{arith}
+use mathlib.Core.Path.{◌≡◌, refl, sym}
+use mathlib.Core.List.{List}
+use borrow.Author.Tests.{not-true, not-false}
+use lib.ListN.{length, length-set}
+use Rattle.xml.specs.Bytes.{Bytes}
+use Rattle.xml.specs.NameCells.{NameCells}
+use Rattle.xml.specs.FreshNames.{Counted, count-start, count-end, count-full, count-stop, count-more}
+use Rattle.xml.proofs.attributes.new_len.Given as goal
+
+abbrev pub invariant-loop-n : goal.invariant-loop-n
+invariant-loop-n l = (l.n ≤ 32) × (l.at + l.n ≤ length l.src) × (length l.name ≡ 32) × ((used : List Bytes) → NameCells l.src l.cells l.base l.k used → Counted used l.src l.at l.name l.n)
+
+abbrev pub decreases-loop-n : goal.decreases-loop-n
+decreases-loop-n l = 32 - l.n

@@ -1,0 +1,39 @@
+-- `xml::attributes::value_byte` meets its contract: a law for each return. Assumes nothing.
+use mathlib.Core.Path.{sym, ◌∙◌, subst}
+use Prim.Native.Nat.{◌+◌, ◌≤◌}
+use native.Mathlib.Omega.{arith}
+use lib.ListN.{length, drop, get_or, length-drop}
+use Rattle.xml.specs.ScanLaws.{found_len, entity-fits}
+use Rattle.xml.specs.Values.{value-over, value-hit, value-miss, value-kept, value-off}
+use Rattle.xml.specs.ValueBytes.{in-plain, in-less, in-other}
+use Rattle.xml.specs.declared.Found.{Found}
+use borrow.Author.Rules.{rules}
+use borrow.Author.Tests.{not-true, not-false}
+use Rattle.xml.proofs.attributes.value_byte.Goals as goal
+
+pub returns-then-b-q : goal.returns-then-b-q
+returns-then-b-q c = sym (value-over c.args.q (get_or c.args.src.now c.args.at 0) (drop (c.args.at + 1) c.args.src.now) c.if-b-q.true)
+
+pub returns-in-Hit : goal.returns-in-Hit
+returns-in-Hit c = sym (value-hit c.args.q (get_or c.args.src.now c.args.at 0) (drop (c.args.at + 1) c.args.src.now) c.in-Hit.k c.in-Hit.field-1 c.if-b-q.false c.if-b-eq38.true (sym c.entity_at.ensures ∙ c.in-Hit.is))
+
+pub overflow_add-result : goal.overflow_add-result
+overflow_add-result c = let s = drop (c.args.at + 1) c.args.src.now in
+    let g : c.in-Miss.k ≤ length s = subst (λ (o : Found). found_len o ≤ length s) (sym c.entity_at.ensures ∙ c.in-Miss.is) (entity-fits s) in
+    omega (arith, length-drop (c.args.at + 1) c.args.src.now)
+
+pub returns-in-Miss : goal.returns-in-Miss
+returns-in-Miss c = sym (value-miss c.args.q (get_or c.args.src.now c.args.at 0) (drop (c.args.at + 1) c.args.src.now) c.in-Miss.k c.if-b-q.false c.if-b-eq38.true (sym c.entity_at.ensures ∙ c.in-Miss.is))
+
+pub returns-then-b-eq60 : goal.returns-then-b-eq60
+returns-then-b-eq60 c = let b = get_or c.args.src.now c.args.at 0 in
+    sym (value-off c.args.q b (drop (c.args.at + 1) c.args.src.now) c.if-b-q.false c.if-b-eq38.false (in-less c.args.q b c.if-b-eq60.true))
+
+pub returns-then-not-is_printed : goal.returns-then-not-is_printed
+returns-then-not-is_printed c = let b = get_or c.args.src.now c.args.at 0 in
+    sym (value-off c.args.q b (drop (c.args.at + 1) c.args.src.now) c.if-b-q.false c.if-b-eq38.false (in-other c.args.q b (sym c.is_printed.ensures ∙ not-true _ c.if-not-is_printed.true-raw)))
+
+pub returns : goal.returns
+returns c = let b = get_or c.args.src.now c.args.at 0 in
+    sym (value-kept c.args.q b (drop (c.args.at + 1) c.args.src.now) c.if-b-q.false c.if-b-eq38.false
+    (in-plain c.args.q b (sym c.is_printed.ensures ∙ not-false _ c.if-not-is_printed.false-raw) c.if-b-eq60.false c.if-b-eq38.false c.if-b-q.false))

@@ -1,0 +1,14 @@
+-- `xml::compare::same_nodes` meets its contract: the nodes passed agree; where two do not, the forests differ (SameTapes). Assumes nothing.
+use Prim.Native.Nat.{◌+◌, ◌-◌, ◌<◌, ◌≤◌}
+use native.Mathlib.Omega.{arith}
+use mathlib.Core.Path.{◌≡◌, sym, ◌∙◌}
+use Rattle.xml.specs.BytesLaws.{same-is}
+use Rattle.xml.specs.TapeLaws.{tape-le}
+use Rattle.xml.specs.SameTapes.{At, tape-at, Agree, agree-more, apart, apart-size, together, same_not, not-true, not-false}
+use Rattle.xml.proofs.compare.same_nodes.Given as goal
+
+abbrev pub invariant-loop-i : goal.invariant-loop-i
+invariant-loop-i l = (l.lo1 ≤ l.i) × (l.i ≤ l.hi1) × (l.lo2 ≤ l.j) × (l.i + l.lo2 ≡ l.j + l.lo1) × Agree l.src1 l.tape1 l.lo1 l.i l.src2 l.tape2 l.lo2
+
+abbrev pub decreases-loop-i : goal.decreases-loop-i
+decreases-loop-i l = l.hi1 - l.i

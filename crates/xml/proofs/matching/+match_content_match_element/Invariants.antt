@@ -1,0 +1,23 @@
+-- `xml::matching::match_content` and `xml::matching::match_element` meet their contracts: they call each other, and the nodes that are left fall.
+-- Of the siblings, those from p on are to stand at the place where the loop has come to. Assumes nothing.
+use native.Mathlib.Omega.{arith}
+use mathlib.Core.Path.{sym, ◌∙◌}
+use lib.ListN.{length}
+use Rattle.xml.specs.Forest.{Forest, write}
+use Rattle.xml.specs.MatchingLaws.{Due, match-fits, match-past, match-then, due-none, due-more, due-done, text-matches}
+use Rattle.xml.specs.Tape.{Tape, next_at}
+use Rattle.xml.specs.TapeLaws.{Front, Inner, Split, front, inner-node, split}
+use Prim.Native.Nat.{ℕ, ◌+◌, ◌*◌, ◌-◌, ◌<◌, ◌≤◌}
+use Rattle.xml.proofs.matching.+match_content_match_element.Given as goal
+
+abbrev pub decreases-match_content : goal.decreases-match_content
+decreases-match_content l = 2 * (l.hi - l.lo) + 1
+
+abbrev pub decreases-match_element : goal.decreases-match_element
+decreases-match_element l = 2 * (next_at l.tape.now l.p - l.p)
+
+abbrev pub invariant-match_content-loop-p : goal.invariant-match_content-loop-p
+invariant-match_content-loop-p l = (l.lo ≤ l.p) × (l.to ≤ length l.src + 1) × ((f : Forest) → Tape l.src l.tape l.lo l.hi f → Due l.src l.tape l.p l.hi (write f) l.at l.to)
+
+abbrev pub decreases-match_content-loop-p : goal.decreases-match_content-loop-p
+decreases-match_content-loop-p l = l.hi - l.p

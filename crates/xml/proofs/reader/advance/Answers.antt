@@ -1,0 +1,21 @@
+-- `xml::reader::advance` meets its contract: each token's function has the same one, and there is a law for each return outside the root
+-- (Closes). Assumes nothing.
+use mathlib.Core.Path.{sym, ◌∙◌}
+use mathlib.Core.Logic.{⊎_elim}
+use native.Mathlib.Omega.{arith}
+use Rattle.xml.proofs.Closes.{opening, outside, outside-white, outside-other, outside-second, opening-root}
+use borrow.Author.Rules.{rules}
+use Rattle.xml.proofs.reader.advance.Goals as goal
+
+pub returns-then-is_white_byte : goal.returns-then-is_white_byte
+returns-then-is_white_byte c = outside-white (outside c.requires c.if-top-gt0.false) (sym c.is_white_byte.ensures ∙ c.if-is_white_byte.true)
+
+pub returns-then-b-ne60 : goal.returns-then-b-ne60
+returns-then-b-ne60 c = outside-other (outside c.requires c.if-top-gt0.false) (sym c.is_white_byte.ensures ∙ c.if-is_white_byte.false) c.if-b-ne60.true
+
+pub returns-then-count-gt0 : goal.returns-then-count-gt0
+returns-then-count-gt0 c = outside-second (outside c.requires c.if-top-gt0-2.false) c.if-b-ne60.false (λ z. omega arith)
+
+pub open_tag-requires : goal.open_tag-requires
+open_tag-requires c = ⊎_elim (λ w. opening c.requires w.0.taken c.if-b-ne60.false (λ x. w.2.left (w.1.ensures ∙ x)))
+    (λ w. opening-root c.requires w.0.left c.if-b-ne60.false w.1.left) c.if-top-gt0-2.branch

@@ -1,0 +1,16 @@
+-- `xml::spelling::count_block` meets its contract: one byte after the other is counted. Assumes nothing.
+use Prim.Native.Nat.{◌+◌, ◌-◌, ◌≤◌}
+use native.Mathlib.Omega.{arith}
+use mathlib.Core.Path.{◌≡◌}
+use mathlib.Core.Logic.{⊎_elim}
+use lib.Dec.{eqb}
+use lib.ListN.{get_or}
+use Rattle.xml.specs.Neat.{one}
+use Rattle.xml.specs.NeatLaws.{one-yes, one-no, Counting, counting-none, counting-next}
+use Rattle.xml.proofs.spelling.count_block.Given as goal
+
+abbrev pub invariant-loop-i : goal.invariant-loop-i
+invariant-loop-i l = (l.i ≤ 128) × Counting l.b l.src l.at (l.at + l.i) l.n
+
+abbrev pub decreases-loop-i : goal.decreases-loop-i
+decreases-loop-i l = 128 - l.i

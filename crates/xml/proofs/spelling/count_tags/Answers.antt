@@ -1,0 +1,38 @@
+-- `xml::spelling::count_tags` meets its contract: what is counted is the count of the nodes below i. Assumes nothing.
+use Prim.Native.Nat.{◌-◌, ◌≤◌}
+use native.Mathlib.Omega.{arith}
+use mathlib.Core.Path.{◌≡◌, refl}
+use mathlib.Core.Logic.{⊎_elim}
+use Rattle.xml.specs.Neat.{tags_below}
+use Rattle.xml.specs.NeatLaws.{below-text, below-tag}
+use Rattle.xml.proofs.spelling.count_tags.Goals as goal
+
+pub loop-i-init : goal.loop-i-init
+unfolding tags_below
+loop-i-init c = (omega arith, omega arith, refl)
+
+pub overflow_mul-i : goal.overflow_mul-i
+overflow_mul-i c = omega arith
+
+pub offset_bounds-tape-i : goal.offset_bounds-tape-i
+offset_bounds-tape-i c = omega arith
+
+pub bounds-tape-i : goal.bounds-tape-i
+bounds-tape-i c = omega arith
+
+pub overflow_add-n : goal.overflow_add-n
+overflow_add-n c = ⊎_elim (λ w. omega arith) (λ w. omega arith) c.if-tape-i-eq0.branch
+
+pub overflow_add-i : goal.overflow_add-i
+overflow_add-i c = omega arith
+
+pub loop-i-smaller : goal.loop-i-smaller
+loop-i-smaller c = omega arith
+
+pub loop-i-preserved : goal.loop-i-preserved
+loop-i-preserved c = ⊎_elim (λ w. (omega arith, omega arith, omega (arith, c.loop-i.invariant.2, below-text c.args.tape.now c.loop-i.i w.0.taken)))
+    (λ w. (omega arith, omega arith, omega (arith, c.loop-i.invariant.2, below-tag c.args.tape.now c.loop-i.i w.0.left))) c.if-tape-i-eq0.branch
+
+pub returns : goal.returns
+returns c = let e : c.loop-i.i ≡ c.args.hi = omega arith in
+    (rw e at c.loop-i.invariant.2, omega arith)

@@ -1,0 +1,37 @@
+-- `xml::tag::attr_count` meets its contract: n attributes stand before the place i. Assumes nothing.
+use Prim.Native.Nat.{◌-◌}
+use mathlib.Core.Path.{refl, sym, subst}
+use native.Mathlib.Omega.{arith}
+use lib.ListN.{length}
+use borrow.Author.Rules.{rules}
+use Rattle.xml.specs.Tags.{parts}
+use Rattle.xml.specs.TagPlaces.{PartIn, part_in}
+use Rattle.xml.specs.TagSums.{Summed, summed-start, summed-next, summed-end, sum_ones}
+use Rattle.xml.proofs.tag.attr_count.Goals as goal
+
+pub loop-i-init : goal.loop-i-init
+loop-i-init c = summed-start c.requires.0 c.name_end-i.ensures (omega arith) (omega (arith, sum_ones (parts 0 c.args.s.now)))
+
+pub part_at-p-requires : goal.part_at-p-requires
+part_at-p-requires c = (c.requires.1, c.loop-i-test.true)
+
+pub overflow_add-n : goal.overflow_add-n
+overflow_add-n c = omega (arith, c.loop-i.invariant.small, c.loop-i-test.true, c.requires.1)
+
+pub overflow_add-i : goal.overflow_add-i
+overflow_add-i c =
+    let here : PartIn c.args.s.now c.loop-i.i c.part_at-p.result = subst (λ g. PartIn c.args.s.now c.loop-i.i g) (sym c.part_at-p.ensures) (part_in c.loop-i.invariant.reached c.loop-i-test.true) in
+    omega (arith, here.inside, c.requires.1)
+
+pub loop-i-smaller : goal.loop-i-smaller
+loop-i-smaller c =
+    let here : PartIn c.args.s.now c.loop-i.i c.part_at-p.result = subst (λ g. PartIn c.args.s.now c.loop-i.i g) (sym c.part_at-p.ensures) (part_in c.loop-i.invariant.reached c.loop-i-test.true) in
+    let p = here in omega (arith, p.named, p.valued, p.inside)
+
+pub loop-i-preserved : goal.loop-i-preserved
+loop-i-preserved c =
+    let here : PartIn c.args.s.now c.loop-i.i c.part_at-p.result = subst (λ g. PartIn c.args.s.now c.loop-i.i g) (sym c.part_at-p.ensures) (part_in c.loop-i.invariant.reached c.loop-i-test.true) in
+    let p = here in summed-next 1 c.loop-i.invariant p refl (omega (arith, p.named, p.valued)) refl refl
+
+pub returns : goal.returns
+returns c = summed-end c.loop-i.invariant (omega arith)

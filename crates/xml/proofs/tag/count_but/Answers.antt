@@ -1,0 +1,53 @@
+-- `xml::tag::count_but` meets its contract: n attributes of other names stand before the place i. Assumes nothing.
+use Prim.Native.Nat.{◌-◌}
+use mathlib.Core.Path.{refl, sym, ◌∙◌, subst}
+use mathlib.Core.Logic.{⊎_elim}
+use native.Mathlib.Omega.{arith}
+use borrow.Author.Tests.{not-true, not-false}
+use lib.ListN.{length}
+use borrow.Author.Rules.{rules}
+use Rattle.xml.specs.Bytes.{bytes}
+use Rattle.xml.specs.Tags.{parts, count_but}
+use Rattle.xml.specs.TagPlaces.{PartIn, part_in}
+use Rattle.xml.specs.TagSums.{Summed, summed-start, summed-next, summed-end, other, sum-others, one-not, one-so}
+use Rattle.xml.proofs.tag.count_but.Goals as goal
+
+pub loop-i-init : goal.loop-i-init
+loop-i-init c = summed-start c.requires.0 c.name_end-i.ensures (omega arith) (omega (arith, sum-others (bytes "t") (parts 0 c.args.s.now)))
+
+pub part_at-p-requires : goal.part_at-p-requires
+part_at-p-requires c = (c.requires.1, c.loop-i-test.true)
+
+pub overflow_add-i : goal.overflow_add-i
+overflow_add-i c = omega (arith, c.loop-i-test.true, c.requires.1)
+
+pub is_byte-requires : goal.is_byte-requires
+is_byte-requires c =
+    let here : PartIn c.args.s.now c.loop-i.i c.part_at-p.result = subst (λ g. PartIn c.args.s.now c.loop-i.i g) (sym c.part_at-p.ensures) (part_in c.loop-i.invariant.reached c.loop-i-test.true) in
+    let p = here in omega (arith, p.named, p.valued, p.inside)
+
+pub overflow_add-n : goal.overflow_add-n
+overflow_add-n c = omega (arith, c.loop-i.invariant.small, c.loop-i-test.true, c.requires.1)
+
+pub overflow_add-i-in-loop-i : goal.overflow_add-i-in-loop-i
+overflow_add-i-in-loop-i c =
+    let here : PartIn c.args.s.now c.loop-i.i c.part_at-p.result = subst (λ g. PartIn c.args.s.now c.loop-i.i g) (sym c.part_at-p.ensures) (part_in c.loop-i.invariant.reached c.loop-i-test.true) in
+    omega (arith, here.inside, c.requires.1)
+
+pub loop-i-smaller : goal.loop-i-smaller
+loop-i-smaller c =
+    let here : PartIn c.args.s.now c.loop-i.i c.part_at-p.result = subst (λ g. PartIn c.args.s.now c.loop-i.i g) (sym c.part_at-p.ensures) (part_in c.loop-i.invariant.reached c.loop-i-test.true) in
+    let p = here in omega (arith, p.named, p.valued, p.inside)
+
+pub loop-i-preserved : goal.loop-i-preserved
+unfolding bytes
+loop-i-preserved c =
+    let here : PartIn c.args.s.now c.loop-i.i c.part_at-p.result = subst (λ g. PartIn c.args.s.now c.loop-i.i g) (sym c.part_at-p.ensures) (part_in c.loop-i.invariant.reached c.loop-i-test.true) in
+    let p = here in
+    let a = c.args in
+    ⊎_elim
+    (λ w. summed-next 1 c.loop-i.invariant p (one-not a.s.now c.loop-i.i c.part_at-p.result 116 (sym c.is_byte.ensures ∙ not-true _ w.0.taken)) (omega (arith, p.named, p.valued)) refl w.1)
+    (λ w. summed-next 0 c.loop-i.invariant p (one-so a.s.now c.loop-i.i c.part_at-p.result 116 (sym c.is_byte.ensures ∙ not-false _ w.0.left)) (omega (arith, p.named, p.valued)) refl (omega (arith, w.1))) c.if-not-is_byte.branch
+
+pub returns : goal.returns
+returns c = summed-end c.loop-i.invariant (omega arith)

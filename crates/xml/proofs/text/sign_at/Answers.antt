@@ -1,0 +1,32 @@
+-- `xml::text::sign_at` meets its contract: the byte itself, or what its entity or line end means. Assumes nothing.
+use native.Mathlib.Omega.{arith}
+use mathlib.Core.Path.{sym, ◌∙◌}
+use lib.Seq.{length-take-le}
+use Rattle.xml.specs.SignLaws.{sign-here, sign_line, sign-found, found_inside}
+use Rattle.xml.specs.declared.Found.TheVariants.{Hit}
+use borrow.Author.Rules.{rules}
+use Rattle.xml.proofs.text.sign_at.Goals as goal
+
+pub returns-then-b-eq13 : goal.returns-then-b-eq13
+returns-then-b-eq13 c = let a = c.args in c.line_end.ensures ∙ sym (sign_line a.src.now a.i a.e c.requires.0 c.requires.1 c.if-b-eq13.true)
+
+pub returns-then-b-ne38 : goal.returns-then-b-ne38
+returns-then-b-ne38 c = let a = c.args in sym (sign-here a.src.now a.i a.e c.requires.0 c.requires.1 c.if-b-ne38.true c.if-b-eq13.false)
+
+pub slice_bounds-entity_at-end : goal.slice_bounds-entity_at-end
+slice_bounds-entity_at-end c = let a = c.args in sym (length-take-le a.e a.src.now c.requires.1)
+
+pub entity_at-requires : goal.entity_at-requires
+entity_at-requires c = let a = c.args in omega (arith, length-take-le a.e a.src.now c.requires.1)
+
+pub overflow_add-result-in-Hit-2 : goal.overflow_add-result-in-Hit-2
+overflow_add-result-in-Hit-2 c = let a = c.args in
+    omega (arith, found_inside a.src.now a.i a.e c.requires.0 c.requires.1 c.in-Hit.n c.in-Hit.c (sym c.entity_at.ensures ∙ c.in-Hit.is))
+
+pub returns-in-Hit : goal.returns-in-Hit
+returns-in-Hit c = let a = c.args in
+    sym (sign-found a.src.now a.i a.e c.requires.0 c.requires.1 c.if-b-ne38.false (Hit c.in-Hit.n c.in-Hit.c) (sym c.entity_at.ensures ∙ c.in-Hit.is))
+
+pub returns-in-Miss : goal.returns-in-Miss
+returns-in-Miss c = let a = c.args in
+    sym (sign-found a.src.now a.i a.e c.requires.0 c.requires.1 c.if-b-ne38.false _ (sym c.entity_at.ensures ∙ c.in-Miss.is))
