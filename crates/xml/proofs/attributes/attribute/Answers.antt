@@ -15,9 +15,9 @@ returns-then-src-at-ne32 c = λ used h. sym (named_other used (drop (c.args.at +
 pub overflow_add-to : goal.overflow_add-to
 overflow_add-to c = omega (arith, name_in_lem c.args.src.now (c.args.at + 1) c.name_len-m.result (omega (arith, c.requires.2)) c.name_len-m.ensures)
 
--- LEFT
--- part-is-new-end : tie.Need-slice-bounds-is-new-end
--- part-is-new-end c = name_in_lem c.before.before.before.before.before.args.src.now (c.before.before.before.before.before.args.at + 1) c.name-len.result (omega (arith, c.before.before.before.before.before.requires.2)) c.name-len.ensures
+pub slice_bounds-is_new-end : goal.slice_bounds-is_new-end
+slice_bounds-is_new-end c = name_in_lem c.args.src.now (c.args.at + 1) c.name_len-m.result (omega (arith, c.requires.2)) c.name_len-m.ensures
+
 pub is_new-requires : goal.is_new-requires
 is_new-requires c = (c.requires.0, c.requires.1, part-begins (drop (c.args.at + 1) c.args.src.now) (c.args.at + 1) c.name_len-m.result c.name_len-m.ensures)
 

@@ -5,6 +5,7 @@ use mathlib.Core.Logic.{⊎_elim}
 use native.Mathlib.Omega.{arith}
 use Rattle.xml.proofs.Closes.{opening, outside, outside-white, outside-other, outside-second, opening-root}
 use borrow.Author.Rules.{rules}
+use Rattle.xml.proofs.reader.advance.Goals.{then-top-gt0-2+else-byte_at-eq47, else-top-gt0-2+else-count-gt0}
 use Rattle.xml.proofs.reader.advance.Goals as goal
 
 pub returns-then-is_white_byte : goal.returns-then-is_white_byte
@@ -17,5 +18,8 @@ pub returns-then-count-gt0 : goal.returns-then-count-gt0
 returns-then-count-gt0 c = outside-second (outside c.requires c.if-top-gt0-2.false) c.if-b-ne60.false (λ z. omega arith)
 
 pub open_tag-requires : goal.open_tag-requires
-open_tag-requires c = ⊎_elim (λ w. opening c.requires w.0.taken c.if-b-ne60.false (λ x. w.2.left (w.1.ensures ∙ x)))
-    (λ w. opening-root c.requires w.0.left c.if-b-ne60.false w.1.left) c.if-top-gt0-2.branch
+open_tag-requires c =
+    elim c.if-top-gt0-2.branch [
+      then-top-gt0-2+else-byte_at-eq47 w ↦ opening c.requires w.if-top-gt0-2.true c.if-b-ne60.false (λ x. w.if-byte_at-eq47.false (w.byte_at.ensures ∙ x))
+    | else-top-gt0-2+else-count-gt0 w ↦ opening-root c.requires w.if-top-gt0-2.false c.if-b-ne60.false w.if-count-gt0.false
+    ]

@@ -15,6 +15,7 @@ use Rattle.xml.specs.ByteTests.{small-named}
 use Rattle.xml.specs.Read.{name_rest}
 use Rattle.xml.specs.ScanLaws.{name_rest-none, name_rest-end, name_rest-stop, name_rest-more}
 use Rattle.xml.specs.Truth.{by-test}
+use Rattle.xml.proofs.scan.name_rest.Goals.{then-not-is_small+else-not-is_name_byte, else-not-is_small}
 use Rattle.xml.proofs.scan.name_rest.Goals as goal
 
 pub overflow_sub-src : goal.overflow_sub-src
@@ -50,8 +51,7 @@ loop-n-preserved c = let src = c.args.src.now in
     let b = get_or src (at + n) 0 in
     let k = c.is_small in
     let named : is_name_byte b ≡ true =
-    ⊎_elim (λ w. sym w.1.ensures ∙ not-false w.1.result w.2.left) (λ w. small-named b (sym k.ensures ∙ not-false k.result w.left))
-    c.if-not-is_small.branch
+    elim c.if-not-is_small.branch [ then-not-is_small+else-not-is_name_byte w ↦ sym w.is_name_byte.ensures ∙ w.if-not-is_name_byte.false | else-not-is_small w ↦ small-named b (sym k.ensures ∙ w.if-not-is_small.false) ]
     in
     let h : at + n < length src = omega (arith, c.least-count.ensures) in
     let few : n < 31 = omega (arith, c.least-count.ensures) in

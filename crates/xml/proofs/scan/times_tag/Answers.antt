@@ -5,10 +5,10 @@ use Rattle.xml.proofs.Tags.{word_in, word-off, times-in, shut-in, times-open-her
 use borrow.Author.Rules.{rules}
 use Rattle.xml.proofs.scan.times_tag.Goals as goal
 
--- LEFT
--- add-t11 : tie.Need-overflow-add-t11
--- unfolding bytes
--- add-t11 c = omega (arith, word_in c.before.before.before.before.args.src.now c.before.before.before.before.args.at c.before.before.before.before.requires c.before.same.ensures)
+pub overflow_add-result : goal.overflow_add-result
+unfolding bytes
+overflow_add-result c = omega (arith, word_in c.args.src.now c.args.at c.requires c.same-m.ensures)
+
 pub returns-then-m-ne4 : goal.returns-then-m-ne4
 unfolding bytes
 returns-then-m-ne4 c = word-off c.args.src.now c.args.at c.requires c.same-m.ensures c.if-m-ne4.true

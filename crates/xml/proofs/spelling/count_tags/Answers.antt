@@ -5,6 +5,7 @@ use mathlib.Core.Path.{◌≡◌, refl}
 use mathlib.Core.Logic.{⊎_elim}
 use Rattle.xml.specs.Neat.{tags_below}
 use Rattle.xml.specs.NeatLaws.{below-text, below-tag}
+use Rattle.xml.proofs.spelling.count_tags.Goals.{then-tape-i-eq0, else-tape-i-eq0}
 use Rattle.xml.proofs.spelling.count_tags.Goals as goal
 
 pub loop-i-init : goal.loop-i-init
@@ -21,7 +22,7 @@ pub bounds-tape-i : goal.bounds-tape-i
 bounds-tape-i c = omega arith
 
 pub overflow_add-n : goal.overflow_add-n
-overflow_add-n c = ⊎_elim (λ w. omega arith) (λ w. omega arith) c.if-tape-i-eq0.branch
+overflow_add-n c = elim c.if-tape-i-eq0.branch [ then-tape-i-eq0 w ↦ omega arith | else-tape-i-eq0 w ↦ omega arith ]
 
 pub overflow_add-i : goal.overflow_add-i
 overflow_add-i c = omega arith
@@ -30,8 +31,10 @@ pub loop-i-smaller : goal.loop-i-smaller
 loop-i-smaller c = omega arith
 
 pub loop-i-preserved : goal.loop-i-preserved
-loop-i-preserved c = ⊎_elim (λ w. (omega arith, omega arith, omega (arith, c.loop-i.invariant.2, below-text c.args.tape.now c.loop-i.i w.0.taken)))
-    (λ w. (omega arith, omega arith, omega (arith, c.loop-i.invariant.2, below-tag c.args.tape.now c.loop-i.i w.0.left))) c.if-tape-i-eq0.branch
+loop-i-preserved c = elim c.if-tape-i-eq0.branch [
+      then-tape-i-eq0 w ↦ (omega arith, omega arith, omega (arith, c.loop-i.invariant.2, below-text c.args.tape.now c.loop-i.i w.if-tape-i-eq0.true))
+    | else-tape-i-eq0 w ↦ (omega arith, omega arith, omega (arith, c.loop-i.invariant.2, below-tag c.args.tape.now c.loop-i.i w.if-tape-i-eq0.false))
+    ]
 
 pub returns : goal.returns
 returns c = let e : c.loop-i.i ≡ c.args.hi = omega arith in

@@ -10,6 +10,7 @@ use Rattle.xml.specs.Bytes.{bytes}
 use Rattle.xml.specs.Tags.{parts, count_but}
 use Rattle.xml.specs.TagPlaces.{PartIn, part_in}
 use Rattle.xml.specs.TagSums.{Summed, summed-start, summed-next, summed-end, other, sum-others, one-not, one-so}
+use Rattle.xml.proofs.tag.count_but.Goals.{then-not-is_byte, else-not-is_byte}
 use Rattle.xml.proofs.tag.count_but.Goals as goal
 
 pub loop-i-init : goal.loop-i-init
@@ -45,9 +46,10 @@ loop-i-preserved c =
     let here : PartIn c.args.s.now c.loop-i.i c.part_at-p.result = subst (λ g. PartIn c.args.s.now c.loop-i.i g) (sym c.part_at-p.ensures) (part_in c.loop-i.invariant.reached c.loop-i-test.true) in
     let p = here in
     let a = c.args in
-    ⊎_elim
-    (λ w. summed-next 1 c.loop-i.invariant p (one-not a.s.now c.loop-i.i c.part_at-p.result 116 (sym c.is_byte.ensures ∙ not-true _ w.0.taken)) (omega (arith, p.named, p.valued)) refl w.1)
-    (λ w. summed-next 0 c.loop-i.invariant p (one-so a.s.now c.loop-i.i c.part_at-p.result 116 (sym c.is_byte.ensures ∙ not-false _ w.0.left)) (omega (arith, p.named, p.valued)) refl (omega (arith, w.1))) c.if-not-is_byte.branch
+    elim c.if-not-is_byte.branch [
+      then-not-is_byte w ↦ summed-next 1 c.loop-i.invariant p (one-not a.s.now c.loop-i.i c.part_at-p.result 116 (sym c.is_byte.ensures ∙ w.if-not-is_byte.true)) (omega (arith, p.named, p.valued)) refl w.n-is
+    | else-not-is_byte w ↦ summed-next 0 c.loop-i.invariant p (one-so a.s.now c.loop-i.i c.part_at-p.result 116 (sym c.is_byte.ensures ∙ w.if-not-is_byte.false)) (omega (arith, p.named, p.valued)) refl (omega (arith, w.n-is))
+    ]
 
 pub returns : goal.returns
 returns c = summed-end c.loop-i.invariant (omega arith)

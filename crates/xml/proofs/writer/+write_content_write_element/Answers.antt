@@ -31,9 +31,6 @@ write_content-put_text-to-requires t c =
 pub write_content-slice_bounds-write_element-count : goal.write_content-slice_bounds-write_element-count
 write_content-slice_bounds-write_element-count t c = omega (arith, c.least-from.ensures)
 
--- LEFT
--- write-content-part-write-element-start : write-content-lts.Need-slice-bounds-write-element-start (write-content-calls t) (write-content-at t) write-content.Post write-content-Inv-loop write-content-μ-loop
--- write-content-part-write-element-start c = omega (arith, c.least.ensures)
 pub write_content-write_element-to-requires : goal.write_content-write_element-to-requires
 write_content-write_element-to-requires t c =
     let way : Rest c.args.src.now c.args.tape.now c.loop-p.p c.args.hi (write c.requires.forest) c.args.out.now c.args.at c.loop-p.to c.loop-p.out = c.loop-p.invariant.1 c.requires.forest c.requires.tape in

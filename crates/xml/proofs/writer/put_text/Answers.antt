@@ -31,8 +31,8 @@ pub put_escaped-to-requires : goal.put_escaped-to-requires
 put_escaped-to-requires c =
     let first : Running c.args.src.now c.args.a c.args.e c.plain_end-i.result = running c.args.src.now c.args.a c.args.e c.plain_end-i.result c.requires.0 c.requires.1 c.plain_end-i.ensures in
     let start : c.put_part-to.result < 2 ^ 61 + 32768 = omega (arith, c.put_part-to.ensures.place, length-slice c.args.a c.plain_end-i.result c.args.src.now (omega (arith, (first).inside, c.requires.1)), (first).inside, c.requires) in
-    let room : {rest left : List ℕ} {to : ℕ} → Left (spelt (slice c.plain_end-i.result c.args.e c.args.src.now)) rest c.put_part-to.new.out c.put_part-to.result to left → to < 2 ^ 62 = λ x. left-room c.args.src.now c.plain_end-i.result c.args.e x c.requires.1 (omega (arith, (first).forward, c.requires)) (start) in
-    room c.loop-i.invariant.2
+    let room : (rest left : List ℕ) (to : ℕ) → Left (spelt (slice c.plain_end-i.result c.args.e c.args.src.now)) rest c.put_part-to.new.out c.put_part-to.result to left → to < 2 ^ 62 = λ rest left to x. left-room c.args.src.now c.plain_end-i.result c.args.e x c.requires.1 (omega (arith, (first).forward, c.requires)) (start) in
+    room _ _ _ c.loop-i.invariant.2
 
 pub plain_end-i-requires-in-loop-i : goal.plain_end-i-requires-in-loop-i
 plain_end-i-requires-in-loop-i c =
@@ -45,10 +45,10 @@ put_part-to-requires-in-loop-i c =
     let meant : Meant c.args.src.now c.loop-i.i c.args.e c.sign_at-s.result = subst (λ g. Meant c.args.src.now c.loop-i.i c.args.e g) (sym c.sign_at-s.ensures) (sign-means c.args.src.now c.loop-i.i c.args.e c.loop-i-test.true c.requires.1) in
     let more : Running c.args.src.now c.sign_at-s.result.next c.args.e c.plain_end-i-in-loop-i.result = running c.args.src.now c.sign_at-s.result.next c.args.e c.plain_end-i-in-loop-i.result (meant).inside c.requires.1 c.plain_end-i-in-loop-i.ensures in
     let start : c.put_part-to.result < 2 ^ 61 + 32768 = omega (arith, c.put_part-to.ensures.place, length-slice c.args.a c.plain_end-i.result c.args.src.now (omega (arith, (first).inside, c.requires.1)), (first).inside, c.requires) in
-    let room : {rest left : List ℕ} {to : ℕ} → Left (spelt (slice c.plain_end-i.result c.args.e c.args.src.now)) rest c.put_part-to.new.out c.put_part-to.result to left → to < 2 ^ 62 = λ x. left-room c.args.src.now c.plain_end-i.result c.args.e x c.requires.1 (omega (arith, (first).forward, c.requires)) (start) in
+    let room : (rest left : List ℕ) (to : ℕ) → Left (spelt (slice c.plain_end-i.result c.args.e c.args.src.now)) rest c.put_part-to.new.out c.put_part-to.result to left → to < 2 ^ 62 = λ rest left to x. left-room c.args.src.now c.plain_end-i.result c.args.e x c.requires.1 (omega (arith, (first).forward, c.requires)) (start) in
     let m = meant in
     let g = more in
-    let l = room (left-sign m c.loop-i.invariant.2 c.put_escaped-to.ensures) in
+    let l = room _ _ _ (left-sign m c.loop-i.invariant.2 c.put_escaped-to.ensures) in
     (g.forward, omega (arith, g.inside, c.requires.1), omega (arith, g.inside, m.forward, c.loop-i.invariant.0, first.forward, c.requires), l)
 
 pub loop-i-smaller : goal.loop-i-smaller
