@@ -1,0 +1,17 @@
+-- `timestamp::text::parse_into` meets its contract. The loop's invariant: the state of the words and the bound, run over
+-- the rest of the text, ends as it does over all of it.
+use Prim.Native.Nat.{ℕ, ◌-◌, ◌≤◌, ◌<◌}
+use native.Mathlib.Omega.{arith}
+use mathlib.Core.Path.{◌≡◌, ap}
+use mathlib.Core.Bool.{Bool}
+use lib.ListN.{length, drop}
+use Rattle.timestamp.specs.Set.{set_of, empty_set}
+use Rattle.timestamp.specs.Reading.{st, steps, close_in}
+use Rattle.timestamp.specs.RunAt.{run_none, run_fits, run-last, run-other, run-comma}
+use Rattle.timestamp.proofs.text.parse_into.Given as goal
+
+abbrev pub invariant-loop-run : goal.invariant-loop-run
+invariant-loop-run l = (l.at ≤ length l.text) × (length l.words ≡ 16) × (close_in (steps (st (set_of l.words) l.p 0 0) (drop l.at l.text)) ≡ close_in (steps (st empty_set 0 0 0) l.text))
+
+abbrev pub decreases-loop-run : goal.decreases-loop-run
+decreases-loop-run l = length l.text - l.at

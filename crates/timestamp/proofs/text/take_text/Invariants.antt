@@ -1,0 +1,14 @@
+-- `timestamp::text::take_text` meets its contract. The loop's invariant (`TakingText`): the runs before `at` are taken out of the words.
+use Prim.Native.Nat.{◌-◌, ◌≤◌, ◌<◌}
+use native.Mathlib.Omega.{arith}
+use lib.ListN.{length}
+use borrow.Author.Rules.{rules}
+use Rattle.xml.specs.SameTapes.{not-true, not-false}
+use Rattle.timestamp.specs.TakenText.{TakingText, text-start, text-none, text-fits, text-lacks, text-last, text-other, text-more}
+use Rattle.timestamp.proofs.text.take_text.Given as goal
+
+abbrev pub invariant-loop-run : goal.invariant-loop-run
+invariant-loop-run l = TakingText l.text l.initial.left l.first l.bound l.at l.left
+
+abbrev pub decreases-loop-run : goal.decreases-loop-run
+decreases-loop-run l = length l.text - l.at

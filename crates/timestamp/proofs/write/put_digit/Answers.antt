@@ -1,0 +1,6 @@
+-- `timestamp::write::put_digit` meets its contract.
+use borrow.Author.Rules.{rules}
+use Rattle.timestamp.proofs.write.put_digit.Goals as goal
+
+pub returns : goal.returns
+returns c = rw (← c.digit.ensures) c.put.ensures
