@@ -34,7 +34,7 @@ pub struct Step {
 
 // The steps of an address, none where it is refused: their number, and for each the position of its name and its place in the table.
 // The positions of the key values stand beside it, in an array of eight arrays of four.
-#[derive(Drop)]
+#[derive(Clone, Copy)]
 pub struct Parsed {
     pub count: usize,
     pub names: [usize; 8],

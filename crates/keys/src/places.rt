@@ -11,7 +11,7 @@ ghost use Rattle.keys.specs.Places.{part_at, first_below, is_child_at};
 use xml::compare::same_bytes;
 
 // A part of a text, from start up to end.
-#[derive(Drop)]
+#[derive(Clone, Copy)]
 pub struct Part {
     pub start: usize,
     pub end: usize,

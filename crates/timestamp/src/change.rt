@@ -9,7 +9,7 @@ ghost use Rattle.timestamp.specs.Change.{Changes};
 use crate::text::{number_at, run_at};
 
 // The first `to` bytes stay; the tail is that of `put_tail`.
-#[derive(Drop)]
+#[derive(Clone, Copy)]
 pub struct Change {
     pub to: usize,
     pub tail: usize,

@@ -12,7 +12,7 @@ ghost use Rattle.timestamp.specs.Words.{mask_at, Stored};
 ghost use Rattle.timestamp.specs.Taken.{TakenWord, Taken};
 ghost use Rattle.timestamp.specs.Set.{set_of, empty_set, up_to, between, adding, joined, outside, same_set, is_none, subset, first_in};
 
-#[derive(Drop)]
+#[derive(Clone, Copy)]
 pub struct Timestamp {
     pub words: [u64; 16],
 }

@@ -1,0 +1,27 @@
+-- `legality::bounds::bound`, `bound_inside` and `bound_node` meet their contracts: the nodes inside one are fewer. The loop's invariant
+-- (`Gone`): what a version has of the nodes passed. Assumes nothing.
+use native.Mathlib.Omega.{arith}
+use mathlib.Core.Path.{◌≡◌, sym, ◌∙◌, ap}
+use borrow.Author.Rules.{rules}
+use Rattle.xml.specs.Tape.{head_at, next_at}
+use Rattle.xml.specs.TapeLaws.{Front, OneRun, front, one-run, tape-le}
+use Rattle.versions.specs.Rendered.{valid-inside}
+use Rattle.legality.specs.Going.{text-short, name-length}
+use Rattle.legality.specs.Bounds.{Most, Gone, stopped-bounds, packed-bounds, text-most, run-most, element-most, timed-most, node-held, gone-start, gone-front, gone-next, gone-plain, gone-content, gone-done}
+use Prim.Native.Nat.{ℕ, ◌+◌, ◌*◌, ◌-◌, ◌/◌, ◌%◌, ◌<◌}
+use Rattle.legality.proofs.bounds.+bound_bound_inside_bound_node.Given as goal
+
+abbrev pub decreases-bound : goal.decreases-bound
+decreases-bound l = 3 * (l.hi - l.lo) + 1
+
+abbrev pub decreases-bound_inside : goal.decreases-bound_inside
+decreases-bound_inside l = 3 * (l.hi - l.lo) + 2
+
+abbrev pub decreases-bound_node : goal.decreases-bound_node
+decreases-bound_node l = 3 * (next_at l.tape.now l.p - l.p)
+
+abbrev pub invariant-bound-loop-p : goal.invariant-bound-loop-p
+invariant-bound-loop-p l = Gone l.src l.tape l.lo l.p l.hi l.left l.nodes l.bytes l.most_nodes l.most_bytes
+
+abbrev pub decreases-bound-loop-p : goal.decreases-bound-loop-p
+decreases-bound-loop-p l = l.hi - l.p

@@ -1,0 +1,16 @@
+-- `legality::few::are_few` meets its contract. The loop's invariant: k siblings are passed. Assumes nothing.
+use Prim.Native.Nat.{ℕ, ◌+◌, ◌-◌, ◌≤◌}
+use native.Mathlib.Omega.{arith}
+use mathlib.Core.Path.{◌≡◌, sym, ◌∙◌, ap}
+use borrow.Author.Tests.{le-leb, lt-leb}
+use Rattle.xml.specs.Forest.{Forest}
+use Rattle.xml.specs.Tape.{Tape, Valid}
+use Rattle.xml.specs.TapeLaws.{front, split, tape-le, tape-one}
+use Rattle.legality.specs.Few.{siblings, siblings-none, siblings-more}
+use Rattle.legality.proofs.few.are_few.Given as goal
+
+abbrev pub invariant-loop-p : goal.invariant-loop-p
+invariant-loop-p l = (l.k ≤ 4) × Valid l.src l.tape l.p l.hi × ((f g : Forest) → Tape l.src l.tape l.lo l.hi f → Tape l.src l.tape l.p l.hi g → siblings f ≡ l.k + siblings g)
+
+abbrev pub decreases-loop-p : goal.decreases-loop-p
+decreases-loop-p l = l.hi - l.p

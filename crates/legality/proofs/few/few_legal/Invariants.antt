@@ -1,0 +1,28 @@
+-- `legality::few::few_legal` meets its contract. The loop's invariant (`Way`): the answer is that for the nodes left, after those passed,
+-- whose contents' versions are those of `times` that are not left. Assumes nothing.
+use Prim.Native.Nat.{◌-◌, ◌%◌, ◌≤◌}
+use native.Mathlib.Omega.{arith}
+use mathlib.Core.Path.{◌≡◌, refl, sym, ◌∙◌, ap}
+use mathlib.Core.Bool.{true}
+use borrow.Author.Rules.{rules}
+use lib.ListN.{length}
+use Rattle.xml.specs.Forest.{Forest, end}
+use Rattle.xml.specs.Tape.{Tape, Valid, head_at, at-end}
+use Rattle.xml.specs.TapeLaws.{Front, bytes_at, front, split, tape-join}
+use Rattle.xml.specs.SameTapes.{not-true, not-false}
+use Rattle.timestamp.specs.Set.{set_of, empty_set, without}
+use Rattle.timestamp.specs.Listed.{Only}
+use Rattle.timestamp.specs.Parses.{text-first}
+use Rattle.timestamp.specs.TakenText.{TakesText}
+use Rattle.versions.specs.Branches.{judged, follows, Way, first, way-start, way-few, way-done, way-other}
+use Rattle.versions.specs.Hashes.{way-illegal, way-legal}
+use Rattle.legality.specs.Left.{Within, Took, took, within-read, within-less, none-taken, all-taken, more-taken, left-follow, way-untaken}
+use Rattle.legality.proofs.few.few_legal.Given as goal
+
+abbrev pub invariant-loop-p : goal.invariant-loop-p
+invariant-loop-p l = (l.count ≤ l.first)
+    × ((f : Forest) → Tape l.src l.tape l.lo l.hi f → Only l.n (set_of l.initial.left) → Way l.src l.tape l.lo l.p l.hi l.n (set_of l.initial.left) (without (set_of l.initial.left) (set_of l.left)) l.first l.count (judged l.n (set_of l.initial.left) empty_set 0 0 end f))
+    × Valid l.src l.tape l.lo l.p × Valid l.src l.tape l.p l.hi × (length l.left ≡ 16) × Within (set_of l.left) (set_of l.initial.left)
+
+abbrev pub decreases-loop-p : goal.decreases-loop-p
+decreases-loop-p l = l.hi - l.p

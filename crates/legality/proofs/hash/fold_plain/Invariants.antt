@@ -1,0 +1,14 @@
+-- `legality::hash::fold_plain` meets its contract. The loop's invariant: folding in the bytes left gives what all of them give. Assumes nothing.
+use Prim.Native.Nat.{◌+◌, ◌-◌, ◌<◌, ◌≤◌}
+use native.Mathlib.Omega.{arith}
+use mathlib.Core.Path.{◌≡◌, refl, sym, ◌∙◌}
+use lib.Seq.{slice}
+use Rattle.versions.specs.Hashes.{folded, folded-small}
+use Rattle.legality.specs.Folded.{fold-part}
+use Rattle.legality.proofs.hash.fold_plain.Given as goal
+
+abbrev pub invariant-loop-i : goal.invariant-loop-i
+invariant-loop-i l = (l.i ≤ l.e) × (l.h < 65536) × (folded l.start (slice l.a l.e l.src) ≡ folded l.h (slice l.i l.e l.src))
+
+abbrev pub decreases-loop-i : goal.decreases-loop-i
+decreases-loop-i l = l.e - l.i

@@ -1,0 +1,32 @@
+-- `element_legal` and `siblings_legal` meet their contracts: the answer of the loop is that of the siblings to come, after the last label; an element is
+-- judged by its tests one after the other. The nodes left fall.
+use native.Mathlib.Omega.{arith}
+use mathlib.Core.Path.{refl, sym, ◌∙◌, ap}
+use borrow.Author.Rules.{rules}
+use Rattle.xml.specs.Bytes.{bytes}
+use Rattle.xml.specs.SameTapes.{not-true, not-false}
+use Rattle.xml.specs.Tape.{next_at}
+use Rattle.xml.specs.TapeLaws.{tape-le}
+use Rattle.keys.specs.Version.{◌▸◌}
+use Rattle.keys.specs.TableLaws.{table-rules}
+use Rattle.keys.specs.Walks.{Walk, OfNodes, walk-front, walk-node, walk-next}
+use Rattle.timestamp.specs.Set.{set_of}
+use Rattle.timestamp.specs.Words.{zeros-none}
+use Rattle.timestamp.specs.Listed.{listed as times_of}
+use Rattle.versions.specs.Walk.{siblings_legal}
+use Rattle.versions.specs.LegalSteps.{element_legal, element-unlisted, element-named, element-front, element-lack, element-inside, element-once, last-labelled, walk-in}
+use Rattle.versions.specs.LegalGoing.{Legally, legally-start, legally-done, legally-own, the-sib, legally-element, legally-not, legally-more}
+use Prim.Native.Nat.{ℕ, ◌+◌, ◌*◌, ◌-◌, ◌<◌, ◌≤◌}
+use Rattle.legality.proofs.legal.+element_legal_siblings_legal.Given as goal
+
+abbrev pub decreases-element_legal : goal.decreases-element_legal
+decreases-element_legal l = 2 * (next_at l.tape.now l.e - l.e)
+
+abbrev pub decreases-siblings_legal : goal.decreases-siblings_legal
+decreases-siblings_legal l = 2 * (l.hi - l.lo) + 1
+
+abbrev pub invariant-siblings_legal-loop-p : goal.invariant-siblings_legal-loop-p
+invariant-siblings_legal-loop-p l = (l.lo ≤ l.p) × Walk l.text l.table l.paths l.place l.src l.tape l.p l.hi × OfNodes l.text l.table l.paths l.place l.src l.tape l.lo l.hi (λ K q f. Legally l.src l.tape K l.n q (times_of l.n (set_of l.times.words)) l.p l.hi l.last (siblings_legal K l.n q (times_of l.n (set_of l.times.words)) f))
+
+abbrev pub decreases-siblings_legal-loop-p : goal.decreases-siblings_legal-loop-p
+decreases-siblings_legal-loop-p l = l.hi - l.p

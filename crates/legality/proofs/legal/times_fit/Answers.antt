@@ -1,0 +1,31 @@
+-- `times_fit` meets its contract: a text that is refused, or a set that is tested. A set within one of the versions 1 to n is one of these.
+use Prim.Native.Nat.{ℕ}
+use mathlib.Core.Path.{◌≡◌, refl, sym, ◌∙◌}
+use mathlib.Core.Bool.{Bool, true, false, not, ◌&&◌}
+use lib.Dec.{leb}
+use borrow.Author.Tests.{le-leb}
+use borrow.Author.Rules.{rules}
+use Rattle.xml.specs.SameTapes.{not-true, not-false}
+use Rattle.xml.specs.Truth.{by-test, and_both}
+use Rattle.timestamp.specs.Set.{up_to, same_set, subset}
+use Rattle.timestamp.specs.Tests.{subset-tells, subset-told}
+use Rattle.timestamp.specs.Listed.{Only}
+use Rattle.timestamp.specs.Parse.{read_as}
+use Rattle.versions.specs.Branches.{outcome-refused, outcome-accepted}
+use Rattle.versions.specs.LegalTimes.{stands, stands-out, stands-past, stands-in, read-refused, read-accepted}
+use Rattle.legality.proofs.legal.times_fit.Goals as goal
+
+subset-only : (n : ℕ) (t s : ℕ → Bool) → Only n t → subset s t ≡ true → subset s (up_to n) ≡ true
+subset-only n t s o e =
+    subset-told s (up_to n) (λ v l q. let x = o v (subset-tells s t e v l q) in and_both (leb 1 v) (leb v n) (le-leb 1 v x.0) (le-leb v n x.1))
+
+part-stands : (n : ℕ) (t s : ℕ → Bool) → Only n t → (subset s t && not (same_set s t)) ≡ stands n t s
+part-stands n t s o =
+    by-test (subset s t) (λ e. rw e (sym (stands-in n t s (subset-only n t s o e) e)))
+    (λ e. rw e (by-test (subset s (up_to n)) (λ u. sym (stands-past n t s u e)) (λ u. sym (stands-out n t s u))))
+
+pub returns-then-not-parse_at : goal.returns-then-not-parse_at
+returns-then-not-parse_at c = let e = c.if-not-parse_at.true in (λ n l o. read-refused n _ _ l o (read_as false _) (outcome-refused (read_as c.parse_at.result _) _ c.parse_at.ensures.0 e) refl, c.parse_at.ensures.1)
+
+pub returns : goal.returns
+returns c = (λ n l o. read-accepted n _ _ l o (read_as c.is_part.result _) (outcome-accepted (read_as c.parse_at.result _) _ c.parse_at.ensures.0 c.if-not-parse_at.false) (c.is_part.ensures ∙ part-stands n _ _ o), c.parse_at.ensures.1)

@@ -1,0 +1,16 @@
+-- `archive::open::count_nodes` meets its contract. The loop's invariant: what is counted, with the tally of the nodes left, is that of all
+-- the nodes. Assumes nothing.
+use Prim.Native.Nat.{◌+◌, ◌-◌, ◌≤◌}
+use native.Mathlib.Omega.{arith}
+use mathlib.Core.Path.{◌≡◌}
+use Rattle.xml.specs.TapeLaws.{tape-le}
+use Rattle.xml.specs.SameTapes.{At, tape-at}
+use Rattle.versions.specs.Untimed.{timed_at}
+use Rattle.versions.specs.NodeCount.{weight, tally, weight-most, tally-more, tally-none, tally-nodes}
+use Rattle.legality.proofs.open.count_nodes.Given as goal
+
+abbrev pub invariant-loop-i : goal.invariant-loop-i
+invariant-loop-i l = (l.lo ≤ l.i) × (l.i ≤ l.hi) × (l.n ≤ l.i) × (l.n + tally l.src l.tape (l.hi - l.i) l.i ≡ tally l.src l.tape (l.hi - l.lo) l.lo)
+
+abbrev pub decreases-loop-i : goal.decreases-loop-i
+decreases-loop-i l = l.hi - l.i

@@ -1,0 +1,16 @@
+-- `archive::sizes::within_limits` meets its contract. The loop's invariant: all versions are small just where those left are. Assumes
+-- nothing.
+use Prim.Native.Nat.{◌+◌, ◌-◌, ◌≤◌}
+use native.Mathlib.Omega.{arith}
+use mathlib.Core.Path.{◌≡◌, sym, ◌∙◌}
+use borrow.Author.Rules.{rules}
+use Rattle.xml.specs.Bytes.{all}
+use Rattle.timestamp.specs.Times.{up_from}
+use Rattle.versions.specs.Small.{is_small, small-nodes, small_bytes, small-both, each_more, each-not, each-done, each_start}
+use Rattle.legality.proofs.sizes.within_limits.Given as goal
+
+abbrev pub invariant-loop-i : goal.invariant-loop-i
+invariant-loop-i l = (1 ≤ l.i) × (l.i ≤ l.n + 1) × (all (is_small l.nodes l.bytes l.x l.y) (up_from 1 l.n) ≡ all (is_small l.nodes l.bytes l.x l.y) (up_from l.i (l.n + 1 - l.i)))
+
+abbrev pub decreases-loop-i : goal.decreases-loop-i
+decreases-loop-i l = l.n + 1 - l.i

@@ -1,0 +1,35 @@
+-- `walks::back::write_back`, `back_inside` and `back_node` meet their contracts: siblings by a loop, depth by recursion; a node
+-- is written into the part of the output that it is lent. Each node has 163,840 bytes of room.
+use Prim.Native.Nat.{ℕ, ◌+◌, ◌*◌, ◌-◌, ◌%◌, ◌<◌, ◌≤◌}
+use native.Mathlib.Omega.{arith}
+use mathlib.Core.Path.{◌≡◌, sym, ◌∙◌}
+use borrow.Author.Rules.{rules}
+use Rattle.xml.specs.Forest.{Forest}
+use Rattle.xml.specs.OverLaws.{lent_back}
+use Rattle.xml.specs.Tape.{head_at, next_at, start_in, end_in, Tape}
+use Rattle.xml.specs.TapeLaws.{Front, OneRun, bytes_at, front, one-run, tape-le}
+use Rattle.timestamp.specs.Times.{Times}
+use Rattle.timestamp.specs.Set.{cut_at}
+use Rattle.timestamp.specs.Change.{Changes}
+use Rattle.versions.specs.Walk.{times_in}
+use Rattle.versions.specs.Rendered.{Going, node-part, open-room, going-none, going_more, going_done, going-length, text-renders, element-renders}
+use Rattle.versions.specs.Timely.{Timely, timely-first, timely-rest, timely-inside, timely-set}
+use Rattle.versions.specs.BackText.{back_text, back-pieces, back-length}
+use Rattle.walks.specs.Trimmed.{cut_text, Trimmed, trimmed-short, trimmed-room, cut-trimmed, cut-times, node-dropped, node-bare, node-wrapped}
+use Rattle.walks.proofs.back.+back_inside_back_node_write_back.Given as goal
+
+abbrev pub decreases-back_inside : goal.decreases-back_inside
+decreases-back_inside l = 3 * (l.hi - l.lo) + 2
+
+abbrev pub decreases-back_node : goal.decreases-back_node
+decreases-back_node l = 3 * (next_at l.tape.now l.p - l.p)
+
+abbrev pub decreases-write_back : goal.decreases-write_back
+decreases-write_back l = 3 * (l.hi - l.lo) + 1
+
+abbrev pub invariant-write_back-loop-p : goal.invariant-write_back-loop-p
+invariant-write_back-loop-p l = let w = back_text l.i (times_in l.i (cut_text l.src l.a l.around.to l.around.tail l.i)) in
+    (l.lo ≤ l.p) × Timely l.i l.src l.tape l.p l.hi × (l.to + 163840 * (l.hi - l.p) ≤ l.at + 163840 * (l.hi - l.lo)) × ((f : Forest) → Tape l.src l.tape l.lo l.hi f → Going w l.src l.tape l.p l.hi (w f) l.initial.out l.at l.to l.out)
+
+abbrev pub decreases-write_back-loop-p : goal.decreases-write_back-loop-p
+decreases-write_back-loop-p l = l.hi - l.p

@@ -1,0 +1,27 @@
+-- `walks::retrieve::write_version` and `write_node` meet their contracts: siblings by a loop, depth by recursion; a node is written into the part
+-- of the output that it is lent. Each node has 163,840 bytes of room.
+use Prim.Native.Nat.{ℕ, ◌+◌, ◌*◌, ◌-◌, ◌%◌, ◌<◌, ◌≤◌}
+use native.Mathlib.Omega.{arith}
+use mathlib.Core.Path.{◌≡◌, ap, sym, ◌∙◌}
+use borrow.Author.Rules.{rules}
+use Rattle.xml.specs.Forest.{Forest}
+use Rattle.xml.specs.OverLaws.{lent_back}
+use Rattle.xml.specs.Tape.{head_at, next_at, Tape}
+use Rattle.xml.specs.TapeLaws.{Front, bytes_at, front}
+use Rattle.timestamp.specs.Times.{belongs}
+use Rattle.versions.specs.Timely.{Timely, timely-first, timely-rest, timely-inside}
+use Rattle.versions.specs.Rendered.{Going, node-part, open-room, going-none, going_more, going_done, going-length, text-renders, element-renders}
+use Rattle.versions.specs.VersionText.{version_text, version-pieces, version-length, stamp-in, stamp-out}
+use Rattle.walks.proofs.retrieve.+write_node_write_version.Given as goal
+
+abbrev pub decreases-write_node : goal.decreases-write_node
+decreases-write_node l = 2 * (next_at l.tape.now l.p - l.p)
+
+abbrev pub decreases-write_version : goal.decreases-write_version
+decreases-write_version l = 2 * (l.hi - l.lo) + 1
+
+abbrev pub invariant-write_version-loop-p : goal.invariant-write_version-loop-p
+invariant-write_version-loop-p l = (l.lo ≤ l.p) × Timely l.i l.src l.tape l.p l.hi × (l.to + 163840 * (l.hi - l.p) ≤ l.at + 163840 * (l.hi - l.lo)) × ((f : Forest) → Tape l.src l.tape l.lo l.hi f → Going (version_text l.i) l.src l.tape l.p l.hi (version_text l.i f) l.initial.out l.at l.to l.out)
+
+abbrev pub decreases-write_version-loop-p : goal.decreases-write_version-loop-p
+decreases-write_version-loop-p l = l.hi - l.p
