@@ -1,6 +1,6 @@
 /* The station archive: the six calls of document 01 and, of document 02, the three over marks (Q-2) and the longest history
  * line (Q-14), for the monitor's firmware.
- * Link target/staticlib/libfirmware.a (made by `rt staticlib firmware`; x86-64 Linux).
+ * Link crates/firmware/out/libfirmware.a (made by `rt lib` in crates/firmware; x86-64 Linux).
  *
  * A text is a pointer and a length in bytes, with no 0 at its end. A call returns 0, or the number of the
  * first row that applies (enum archive_number): of the rows named with the call, tried in the order 1 to 10, 17, 15,
