@@ -27,7 +27,7 @@ joined-join_by : (o k v : Bytes) (ks vs : List Bytes) → o ++ (join_by (bytes "
 unfolding joined join_by zip_with one
 joined-join_by o k v [] vs = simp append_assoc
 joined-join_by o k v (j ∷ ks) [] = simp append_assoc
-joined-join_by o k v (j ∷ ks) (w ∷ vs) = simp append_assoc (ap (λ z. o ++ (k ++ (bytes "=\"" ++ (v ++ (bytes "\"" ++ z))))) (simp append_assoc at (joined-join_by (bytes " and ") j w ks vs)))
+joined-join_by o k v (j ∷ ks) (w ∷ vs) = simp append_assoc (ap (λ z. o ++ (k ++ (bytes "=\"" ++ (v ++ (bytes "\"" ++ z))))) (joined-join_by (bytes " and ") j w ks vs))
 
 pub conditions-text : (ks vs : List Bytes) → length vs ≡ length ks → write_conditions ks vs ≡ conditions_text ks vs
 unfolding write_conditions conditions_text one

@@ -123,4 +123,6 @@ module _ (keys : Bytes) (K : KeyList) (legal : key_list keys ≡ ok K) where
   -- of two lists of texts, number by number
   pub any-order-all : (ss ts : List Bytes) → EachInAnyOrder K ss ts → map (version K) ss ≡ map (version K) ts
   any-order-all [] [] none = refl
+  any-order-all [] (t ∷ ts) o = elim o [ ]
+  any-order-all (s ∷ ss) [] o = elim o [ ]
   any-order-all (s ∷ ss) (t ∷ ts) (more o h) = ap₂ ◌∷◌ (any_order s t o) (any-order-all ss ts h)

@@ -71,12 +71,12 @@ paths-mem (k ∷ K) r m = go (λ n. paths-mem K r n) (Memᴰ.append_cases (path 
     go ih (inl n) = (k, Memᴰ.head refl, n)
     go ih (inr n) = let t = ih n in (t.0, Memᴰ.tail t.1, t.2)
 
-pub mem-paths : {K : KeyList} {k : Key} {r : Path} → Memᴰ k K → Memᴰ r (path k ∷ implied k) → Memᴰ r (paths K)
+pub mem-paths : {k : Key} {K : KeyList} {r : Path} → Memᴰ k K → Memᴰ r (path k ∷ implied k) → Memᴰ r (paths K)
 unfolding paths flat_map
 mem-paths {r = r} (Memᴰ.head {x = j} e) n = Memᴰ.append_left _ (subst (λ (z : Key). Memᴰ r (path z ∷ implied z)) e n)
 mem-paths (Memᴰ.tail {x = j} m) n = Memᴰ.append_right (path j ∷ implied j) (mem-paths m n)
 
-pub mem-implied : {K : KeyList} {k : Key} {r : Path} → Memᴰ k K → Memᴰ r (implied k) → Memᴰ r (flat_map implied K)
+pub mem-implied : {k : Key} {K : KeyList} {r : Path} → Memᴰ k K → Memᴰ r (implied k) → Memᴰ r (flat_map implied K)
 unfolding flat_map
 mem-implied {r = r} (Memᴰ.head {x = j} e) n = Memᴰ.append_left _ (subst (λ (z : Key). Memᴰ r (implied z)) e n)
 mem-implied (Memᴰ.tail {x = j} m) n = Memᴰ.append_right (implied j) (mem-implied m n)
@@ -131,7 +131,7 @@ once-right [] t e = e
 once-right (x ∷ s) t e = once-right s t (once-tail x (s ++ t) e)
 
 -- so no line has an implied path
-pub line-implied : {K : KeyList} {k j : Key} {c : Path} → distinct same_path (paths K) ≡ true → Memᴰ k K → c ≡ path k → Memᴰ j K → Memᴰ c (implied j) → ⊥
+pub line-implied : {k j : Key} {c : Path} {K : KeyList} → distinct same_path (paths K) ≡ true → Memᴰ k K → c ≡ path k → Memᴰ j K → Memᴰ c (implied j) → ⊥
 unfolding paths flat_map
 line-implied {c = c} u (Memᴰ.head {x = x} {xs = K} e) p (Memᴰ.head e') n =
     once-head (path x) _ u (Memᴰ.cast (ap path (sym e) ∙ sym p) (Memᴰ.append_left _ (subst (λ (z : Key). Memᴰ c (implied z)) e' n)))

@@ -44,7 +44,7 @@ mem-at [] i h = absurd (not-suc-le-zero h)
 mem-at (p ∷ l) zero h = Memᴰ.head refl
 mem-at (p ∷ l) (suc i) h = Memᴰ.tail (mem-at l i (le_of_suc-le-suc h))
 
-pub at_mem : {l : List Path} {q : Path} → Memᴰ q l → (i : ℕ) × (i < length l) × (get_or l i [] ≡ q)
+pub at_mem : {q : Path} {l : List Path} → Memᴰ q l → (i : ℕ) × (i < length l) × (get_or l i [] ≡ q)
 at_mem (Memᴰ.head e) = (0, omega arith, sym e)
 at_mem (Memᴰ.tail m) = let t = at_mem m in (suc t.0, omega (arith, t.1), t.2)
 

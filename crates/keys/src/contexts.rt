@@ -9,7 +9,7 @@ use xml::compare::same_long;
 use xml::scan::{byte_at, name_len};
 
 // A context: the place of its path, and how many names it has.
-#[derive(Drop)]
+#[derive(Clone, Copy)]
 pub struct Context {
     pub place: usize,
     pub depth: usize,

@@ -9,7 +9,7 @@ pub mod judge;
 pub mod lent;
 
 // An entry: 16 bytes, of which the first `len` are the name and the others zero, and the version; all zero where it is unused.
-#[derive(Drop)]
+#[derive(Clone, Copy)]
 pub struct Mark {
     pub name: [u8; 16],
     pub len: u8,
@@ -17,7 +17,7 @@ pub struct Mark {
 }
 
 // A lent table, by value. `size` is 32, or 0 where the one lent has not 32 entries.
-#[derive(Drop)]
+#[derive(Clone, Copy)]
 pub struct Table {
     pub held: [Mark; 32],
     pub size: usize,

@@ -66,6 +66,8 @@ module _ {n : ℕ} {src cells : List ℕ} {p q : ℕ} where
     where
       go : {f : Forest} → Tape src cells p q f → BranchesIn n f → p < q → LegalSet n (bytes_at src cells p)
       go (at-end e) no-branch l = absurd (omega arith)
+      go (at-text _ _ _ _) b l = elim b [ ]
+      go (at-elem _ _ _) b l = elim b [ ]
       go (at-stamp d i r) (branch y o) l = rw d.bytes-are y
 
   pub branches-rest : SomeBranches n src cells p q → p < q → SomeBranches n src cells (next_at cells p) q
@@ -73,6 +75,8 @@ module _ {n : ℕ} {src cells : List ℕ} {p q : ℕ} where
     where
       go : {f : Forest} → Tape src cells p q f → BranchesIn n f → p < q → SomeBranches n src cells (next_at cells p) q
       go (at-end e) no-branch l = absurd (omega arith)
+      go (at-text _ _ _ _) b l = elim b [ ]
+      go (at-elem _ _ _) b l = elim b [ ]
       go (at-stamp {r = f} d i r) (branch y o) l = record { forest = f; tape = r; legal = o }
 
   pub front-valid : SomeFront n src cells p q → Valid src cells p q
@@ -109,6 +113,8 @@ module _ {src cells : List ℕ} {p hi n : ℕ} {v whole first : Forest} {out mid
     where
       go : {f : Forest} → Tape src cells p hi f → BranchesIn n f → whole ≡ join x.made (add_branch n v f) → nodes x.made + nodes f ≡ nodes first → Passing src cells (next_at cells p) hi n v whole first out at r left
       go (at-end e) no-branch a c = absurd (omega arith)
+      go (at-text _ _ _ _) b a c = elim b [ ]
+      go (at-elem _ _ _) b a c = elim b [ ]
       go (at-stamp {t = s} {k = k} {r = f} b i h) (branch y o) a c =
           record {
             rest = f;
@@ -132,6 +138,8 @@ module _ {src cells : List ℕ} {p hi n : ℕ} {v whole first : Forest} {out mid
       go : {f : Forest} → Tape src cells p hi f → BranchesIn n f → whole ≡ join x.made (add_branch n v f) → nodes x.made + nodes f ≡ nodes first
           → Wrote out at (write whole) r left × (nodes whole ≡ nodes first + 0)
       go (at-end e) no-branch a c = absurd (omega arith)
+      go (at-text _ _ _ _) b a c = elim b [ ]
+      go (at-elem _ _ _) b a c = elim b [ ]
       go (at-stamp {t = s} {k = k} {r = f} z i h) (branch q o) a c =
           let t : times ≡ write_times (times_in n s ++ true ∷ []) = (rw z.bytes-are at g) q in
           let e : whole ≡ join x.made (stamp times k f) = (rw (d k i, add_branch) at a) ∙ ap (λ u. join x.made (stamp u k f)) (sym t) in

@@ -6,7 +6,7 @@ use Rattle.std.proofs.Math.Option.{Option, none, some}
 use mathlib.Core.Ordering.{Ordering, lt, eq, gt}
 use Rattle.xml.specs.Bytes.{Bytes, bytes, same}
 use Rattle.xml.specs.Forest.{Forest, end, elem, text, stamp, nodes, join}
-use Rattle.xml.specs.Tape.{next_at, Node, Tape, at-end, at-elem, at-stamp, size}
+use Rattle.xml.specs.Tape.{next_at, Node, Tape, at-end, at-text, at-elem, at-stamp, size}
 use Rattle.xml.specs.Truth.{clash, and_left, and_right}
 use Rattle.model.specs.Keyed.{three}
 use Rattle.model.specs.Orders.{labels}
@@ -53,6 +53,13 @@ pub first-sibling : {K : KeyList} {n : ℕ} {w : Path} {src cells : List ℕ} {p
     → First K n w src cells p hi f
 unfolding join
 first-sibling (at-end e) no-sibling l = absurd (omega arith)
+first-sibling (at-text _ _ _ _) x l = elim x [ ]
+first-sibling (at-stamp d (at-end _) a) x l = elim x [ ]
+first-sibling (at-stamp d (at-text _ _ _ _) a) x l = elim x [ ]
+first-sibling (at-stamp d (at-elem b i (at-text _ _ _ _)) a) x l = elim x [ ]
+first-sibling (at-stamp d (at-elem b i (at-elem _ _ _)) a) x l = elim x [ ]
+first-sibling (at-stamp d (at-elem b i (at-stamp _ _ _)) a) x l = elim x [ ]
+first-sibling (at-stamp d (at-stamp _ _ _) a) x l = elim x [ ]
 first-sibling (at-elem {n = m} {k = k} {r = r} d i a) (bare h s g o) l =
     record { own = none; name = m; kids = k; rest = r; is = refl; at = record { here = at-elem d i (at-end refl); outer = tt; node = d; inner = i; ends = refl }; after = a; set = tt; keys = h; siblings = s; front = g; others = o }
 first-sibling {src = src} {cells = cells} {p = p} (at-stamp {t = s} {r = r} d (at-elem {n = m} {k = k} b i (at-end e)) a) (timed c h x g o) l =
@@ -75,6 +82,8 @@ pub record Next (K : KeyList) (w : Path) (src cells : List ℕ) (q hi : ℕ) (v 
 
 pub next-element : {K : KeyList} {w : Path} {src cells : List ℕ} {q hi : ℕ} {v : Forest} → Tape src cells q hi v → VersionIn K w v → q < hi → Next K w src cells q hi v
 next-element (at-end e) no-element l = absurd (omega arith)
+next-element (at-text _ _ _ _) x l = elim x [ ]
+next-element (at-stamp _ _ _) x l = elim x [ ]
 next-element (at-elem {n = m} {k = k} {r = r} d i a) (element u h x o) l =
     record { name = m; kids = k; rest = r; is = refl; here = at-elem d i (at-end refl); node = d; inner = i; after = a; plain = u; keys = h; version = x; others = o }
 

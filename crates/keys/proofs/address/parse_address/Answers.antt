@@ -1,0 +1,79 @@
+-- `parse_address` meets its contract: the machine's answer from the place is the whole one, and the steps so far are in the arrays.
+use Prim.Native.Nat.{◌-◌, ◌≤◌}
+use native.Mathlib.Omega.{arith}
+use mathlib.Core.Path.{◌≡◌, refl}
+use mathlib.Core.List.{map}
+use borrow.Author.Rules.{rules}
+use lib.ListN.{length}
+use Rattle.keys.specs.KeyList.{KeyList}
+use Rattle.keys.specs.Version.{name_in}
+use Rattle.keys.specs.Table.{Table}
+use Rattle.keys.specs.AddressLoop.{Parsing, parsing-starts, parsing-more, parsing-full, parsing-wrong, parsing-done}
+use Rattle.keys.proofs.address.parse_address.Goals as goal
+
+pub loop-at-init : goal.loop-at-init
+loop-at-init c = (refl, refl, refl, omega arith, λ K t. parsing-starts K _ _ _ _)
+
+pub returns-then-count-eq8 : goal.returns-then-count-eq8
+returns-then-count-eq8 c = let a = c.args in
+    let s = a.s.now in
+    let o = c.loop-at in
+    λ K t. parsing-full K s o.names o.places o.found o.count o.place o.at (o.invariant.4 K t) a.text.now t.accepted c.no_steps.result _ c.no_steps.ensures (omega arith) c.if-count-eq8.true
+
+pub read_step-step-requires : goal.read_step-step-requires
+read_step-step-requires c = let o = c.loop-at in
+    let h = c.requires.0 in
+    let g = o.invariant.4 h.key_list h.table in
+    (record { key_list = h.key_list; path = map name_in g.done; table = h.table; place_is = g.place_is }, omega arith, omega arith)
+
+pub returns-then-step-eq0 : goal.returns-then-step-eq0
+returns-then-step-eq0 c = let a = c.args in
+    let s = a.s.now in
+    let o = c.loop-at in
+    λ K t. let g = o.invariant.4 K t in
+    parsing-wrong K s o.names o.places o.found o.count o.place o.at (o.invariant.4 K t) a.text.now t.accepted c.no_steps-then-step-eq0.result _ c.no_steps-then-step-eq0.ensures (omega arith)
+    (c.read_step-step.ensures K (map name_in g.done) t g.place_is) c.if-step-eq0.true
+
+pub offset_bounds-found-count : goal.offset_bounds-found-count
+offset_bounds-found-count c = omega arith
+
+pub bounds-found-count : goal.bounds-found-count
+bounds-found-count c = omega arith
+
+pub offset_bounds-names-count : goal.offset_bounds-names-count
+offset_bounds-names-count c = omega arith
+
+pub bounds-names-count : goal.bounds-names-count
+bounds-names-count c = omega arith
+
+pub offset_bounds-places-count : goal.offset_bounds-places-count
+offset_bounds-places-count c = omega arith
+
+pub bounds-places-count : goal.bounds-places-count
+bounds-places-count c = omega arith
+
+pub overflow_add-count : goal.overflow_add-count
+overflow_add-count c = omega arith
+
+pub loop-at-smaller : goal.loop-at-smaller
+loop-at-smaller c = omega arith
+
+pub loop-at-preserved : goal.loop-at-preserved
+loop-at-preserved c = let a = c.args in
+    let s = a.s.now in
+    let o = c.loop-at in
+    let y = c.if-step-eq0.false in (
+      search rules,
+      search rules,
+      search rules,
+      omega arith,
+      λ K t. let g = o.invariant.4 K t in
+          parsing-more K s o.names o.places o.found o.count o.place o.at (o.invariant.4 K t) c.read_step-step.result o.invariant.0 o.invariant.1 o.invariant.2 (omega arith)
+          (c.read_step-step.ensures K (map name_in g.done) t g.place_is) (omega arith),
+    )
+
+pub returns : goal.returns
+returns c = let a = c.args in
+    let s = a.s.now in
+    let o = c.loop-at in
+    λ K t. parsing-done K s o.names o.places o.found o.count o.place o.at (o.invariant.4 K t) a.text.now t.accepted (omega arith)

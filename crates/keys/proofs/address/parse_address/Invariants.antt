@@ -1,0 +1,19 @@
+-- `parse_address` meets its contract: the machine's answer from the place is the whole one, and the steps so far are in the arrays.
+use Prim.Native.Nat.{◌-◌, ◌≤◌}
+use native.Mathlib.Omega.{arith}
+use mathlib.Core.Path.{◌≡◌, refl}
+use mathlib.Core.List.{map}
+use borrow.Author.Rules.{rules}
+use lib.ListN.{length}
+use Rattle.keys.specs.KeyList.{KeyList}
+use Rattle.keys.specs.Version.{name_in}
+use Rattle.keys.specs.Table.{Table}
+use Rattle.keys.specs.AddressLoop.{Parsing, parsing-starts, parsing-more, parsing-full, parsing-wrong, parsing-done}
+use Rattle.keys.proofs.address.parse_address.Given as goal
+
+abbrev pub invariant-loop-at : goal.invariant-loop-at
+invariant-loop-at l = (length l.names ≡ 8) × (length l.places ≡ 8) × (length l.found ≡ 8) × (l.count ≤ 8)
+    × ((K : KeyList) → Table l.text l.table l.n K → Parsing K l.s l.names l.places l.found l.count l.place l.at)
+
+abbrev pub decreases-loop-at : goal.decreases-loop-at
+decreases-loop-at l = 8 - l.count

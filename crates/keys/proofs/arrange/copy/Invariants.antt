@@ -1,0 +1,14 @@
+-- `copy` meets its contract: the nodes passed stand in the second tape.
+use Prim.Native.Nat.{◌+◌, ◌*◌, ◌-◌, ◌≤◌, ◌<◌}
+use native.Mathlib.Omega.{arith}
+use mathlib.Core.Path.{◌≡◌}
+use lib.ListN.{length, length-set}
+use Rattle.xml.specs.Tape.{next_at}
+use Rattle.keys.specs.Copied.{Copied, copied_none, copied_more}
+use Rattle.keys.proofs.arrange.copy.Given as goal
+
+abbrev pub invariant-loop-i : goal.invariant-loop-i
+invariant-loop-i l = (l.lo ≤ l.i) × (l.i ≤ l.hi) × Copied l.tape l.lo l.i l.initial.out l.m l.to l.out
+
+abbrev pub decreases-loop-i : goal.decreases-loop-i
+decreases-loop-i l = l.hi - l.i

@@ -1,0 +1,18 @@
+-- `find_key` meets its contract: the nodes left hold all elements of the name.
+use Prim.Native.Nat.{◌-◌}
+use native.Mathlib.Omega.{arith}
+use mathlib.Core.Path.{sym, ◌∙◌}
+use lib.Seq.{slice}
+use Rattle.xml.specs.Forest.{Forest}
+use Rattle.xml.specs.Tape.{Tape}
+use Rattle.xml.specs.TapeLaws.{Front, front}
+use Rattle.keys.specs.Version.{called}
+use Rattle.keys.specs.FindKey.{key-over, key-past, key_here, key-none}
+use Rattle.keys.specs.Walks.{Going, going_start}
+use Rattle.keys.proofs.label.find_key.Given as goal
+
+abbrev pub invariant-loop-p : goal.invariant-loop-p
+invariant-loop-p l = (f : Forest) → Tape l.src l.tape l.lo l.hi f → Going l.src l.tape l.p l.hi (called (slice l.a l.e l.text) f) (called (slice l.a l.e l.text))
+
+abbrev pub decreases-loop-p : goal.decreases-loop-p
+decreases-loop-p l = l.hi - l.p

@@ -1,0 +1,16 @@
+-- The names end where those that are left do.
+use Prim.Native.Nat.{ℕ, suc, ◌+◌, ◌-◌, ◌≤◌}
+use native.Mathlib.Omega.{arith}
+use mathlib.Core.Path.{◌≡◌, refl, sym, ◌∙◌, ap}
+use borrow.Author.Rules.{rules}
+use lib.ListN.{length}
+use Rattle.xml.specs.Bytes.{bytes}
+use Rattle.keys.specs.LineScans.{names_end}
+use Rattle.keys.proofs.NamesEndLaws.{names-fail, names-stop, names-turn, names-fit, names-over, comma-fits}
+use Rattle.keys.proofs.notation.names_end.Given as goal
+
+abbrev pub invariant-loop-k : goal.invariant-loop-k
+invariant-loop-k l = (l.k ≤ 4) × (l.i + 2 ≤ length l.text) × (names_end l.text 4 l.from ≡ names_end l.text (4 - l.k) l.i)
+
+abbrev pub decreases-loop-k : goal.decreases-loop-k
+decreases-loop-k l = 4 - l.k

@@ -1,0 +1,23 @@
+-- `order_in` meets its contract: the elements passed are the entries, in order.
+use Prim.Native.Nat.{◌*◌, ◌+◌, ◌-◌, ◌%◌, ◌≤◌, ◌<◌}
+use native.Mathlib.Omega.{arith}
+use mathlib.Core.Path.{◌≡◌, refl}
+use lib.ListN.{length}
+use Rattle.xml.specs.Forest.{Forest}
+use Rattle.xml.specs.Tape.{head_at, Tape}
+use Rattle.xml.specs.TapeLaws.{Front, front}
+use Rattle.keys.specs.Placed.{OfPlace}
+use Rattle.keys.specs.Labelled.{Labelled}
+use Rattle.keys.specs.Checked.{Checked, checked-next, checked-here}
+use Rattle.keys.specs.Walks.{parted}
+use Rattle.keys.specs.Siblings.{in_order}
+use Rattle.keys.specs.Entries.{AllEntries, Inserted, inserted, inserted-all}
+use Rattle.keys.specs.Gathering.{Gathering, gathering-start, gathering-skip, gathering-room, gathering-twice, gathering-more, gathering-done}
+use Rattle.keys.proofs.order.order_in.Given as goal
+
+abbrev pub invariant-loop-p : goal.invariant-loop-p
+invariant-loop-p l = (l.lo ≤ l.p) × Checked l.text l.table l.n l.place l.src l.tape l.p l.hi × (length l.order ≡ 512) × AllEntries (Labelled l.text l.table l.n l.place l.src l.tape) l.order l.k
+    × OfPlace l.text l.table l.n l.place (λ K q. (f : Forest) → Tape l.src l.tape l.lo l.hi f → Gathering K q l.src l.tape l.lo l.hi l.order f l.p l.k)
+
+abbrev pub decreases-loop-p : goal.decreases-loop-p
+decreases-loop-p l = l.hi - l.p

@@ -1,0 +1,20 @@
+-- `rank_of` meets its contract: the label before `low` is lower, that at `high` is higher.
+use Prim.Native.Nat.{ℕ, ◌+◌, ◌-◌, ◌≤◌}
+use native.Mathlib.Omega.{arith}
+use mathlib.Core.Path.{refl}
+use Rattle.xml.specs.Bytes.{Bytes}
+use Rattle.xml.specs.Forest.{Forest}
+use Rattle.xml.specs.Tape.{next_at, Node, Tape}
+use Rattle.keys.specs.Version.{label}
+use Rattle.keys.specs.Placed.{OfPlace}
+use Rattle.keys.specs.Entries.{Lists}
+use Rattle.keys.specs.Gathering.{Ranking, ranking-start, ranking-done, ranking-at, ranking-same, ranking-above, ranking-below}
+use Rattle.keys.proofs.order.rank_of.Given as goal
+
+abbrev pub invariant-loop-low : goal.invariant-loop-low
+invariant-loop-low l = (l.low ≤ l.high) × (l.high ≤ l.k)
+    × OfPlace l.text l.table l.n l.place (λ K q. (m : Bytes) (i : Forest) → Node l.src l.tape l.p 1 m → Tape l.src l.tape (l.p + 1) (next_at l.tape l.p) i
+    → (lo hi : ℕ) (s : Forest) → Lists l.src l.tape lo hi l.order 0 l.k s → Ranking K q l.src l.tape lo hi l.order l.k (label K q m i) s l.low l.high)
+
+abbrev pub decreases-loop-low : goal.decreases-loop-low
+decreases-loop-low l = l.high - l.low

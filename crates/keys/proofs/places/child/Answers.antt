@@ -1,0 +1,59 @@
+use Prim.Native.Nat.{◌-◌, ◌≤◌}
+use native.Mathlib.Omega.{arith}
+use mathlib.Core.Path.{◌≡◌, refl, sym, ◌∙◌, ap}
+use mathlib.Core.Bool.{true, false}
+use borrow.Author.Tests.{not-true, not-false}
+use lib.Seq.{slice}
+use Rattle.keys.specs.KeyList.{above}
+use Rattle.keys.specs.Placed.{OfPlace}
+use Rattle.keys.specs.Places.{first_below}
+use Rattle.keys.specs.TableLaws.{table-first, NoChild, search-starts, search-goes, search-shut, search-finds, search-ends}
+use Rattle.keys.proofs.places.child.Goals as goal
+
+-- src/places.rt:102:9
+pub is_above-requires : goal.is_above-requires
+is_above-requires c = c.requires.0.table.held
+
+-- src/places.rt:103:9
+pub returns-then-not-is_above : goal.returns-then-not-is_above
+returns-then-not-is_above c = search-shut c.args.text.now c.args.table.now c.args.n c.args.place (slice c.args.a c.args.e c.args.src.now) (λ K p t e. sym c.if-not-is_above.true ∙ c.is_above.ensures _ K p t e)
+
+-- src/places.rt:105:17
+pub first_below-i-requires : goal.first_below-i-requires
+first_below-i-requires c =
+    let inner : OfPlace c.args.text.now c.args.table.now c.args.n c.args.place (λ K p. true ≡ above K p) = λ K p t e. sym (not-false c.is_above.result c.if-not-is_above.false-raw) ∙ c.is_above.ensures _ K p t e in
+    let first : (c.args.place ≤ 128) × (first_below c.args.place ≤ c.args.n) = let h = c.requires.0 in table-first h.table h.path c.args.place h.place_is (sym (inner h.key_list h.path h.table h.place_is)) in
+    first.0
+
+-- src/places.rt:106:5
+pub loop-i-init : goal.loop-i-init
+loop-i-init c =
+    let inner : OfPlace c.args.text.now c.args.table.now c.args.n c.args.place (λ K p. true ≡ above K p) = λ K p t e. sym (not-false c.is_above.result c.if-not-is_above.false-raw) ∙ c.is_above.ensures _ K p t e in
+    let first : (c.args.place ≤ 128) × (first_below c.args.place ≤ c.args.n) = let h = c.requires.0 in table-first h.table h.path c.args.place h.place_is (sym (inner h.key_list h.path h.table h.place_is)) in
+    (omega (arith, first.1, c.first_below-i.ensures), search-starts c.args.text.now c.args.table.now c.args.n c.args.place (slice c.args.a c.args.e c.args.src.now) c.first_below-i.result c.first_below-i.ensures inner)
+
+-- src/places.rt:107:12
+pub is_child-requires : goal.is_child-requires
+is_child-requires c = let w = (c.requires.0.table.entry c.loop-i.i (omega arith)).within in (omega (arith, c.requires.0.table.held), w, omega arith, omega arith)
+
+-- src/places.rt:108:13
+pub returns-then-is_child : goal.returns-then-is_child
+returns-then-is_child c =
+    let inner : OfPlace c.args.text.now c.args.table.now c.args.n c.args.place (λ K p. true ≡ above K p) = λ K p t e. sym (not-false c.is_above.result c.if-not-is_above.false-raw) ∙ c.is_above.ensures _ K p t e in
+    search-finds c.args.text.now c.args.table.now c.args.n c.args.place (slice c.args.a c.args.e c.args.src.now) c.loop-i.i (omega arith) c.loop-i.invariant.1 inner (sym c.is_child.ensures ∙ c.if-is_child.true)
+
+-- src/places.rt:110:9
+pub overflow_add-i : goal.overflow_add-i
+overflow_add-i c = omega arith
+
+-- src/places.rt:106:5
+pub loop-i-smaller : goal.loop-i-smaller
+loop-i-smaller c = omega arith
+
+-- src/places.rt:106:5
+pub loop-i-preserved : goal.loop-i-preserved
+loop-i-preserved c = (omega arith, search-goes c.args.text.now c.args.table.now c.args.n c.args.place (slice c.args.a c.args.e c.args.src.now) c.loop-i.i (omega arith) c.loop-i.invariant.1 (sym c.is_child.ensures ∙ c.if-is_child.false))
+
+-- src/places.rt:90:1
+pub returns : goal.returns
+returns c = search-ends c.args.text.now c.args.table.now c.args.n c.args.place (slice c.args.a c.args.e c.args.src.now) c.loop-i.i (omega arith) c.loop-i.invariant.1

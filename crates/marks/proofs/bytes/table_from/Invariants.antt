@@ -1,0 +1,14 @@
+use Prim.Native.Nat.{◌-◌, ◌≤◌}
+use native.Mathlib.Omega.{arith}
+use mathlib.Core.Path.{◌≡◌, refl}
+use lib.ListN.{length}
+use Rattle.marks.specs.Marks.{marks_from}
+use Rattle.marks.specs.Lent.{over, blanks}
+use Rattle.marks.specs.BytesLaws.{read_next, read-end, read_short}
+use Rattle.marks.proofs.bytes.table_from.Given as goal
+
+abbrev pub invariant-loop-i : goal.invariant-loop-i
+invariant-loop-i l = (l.i ≤ 32) × (l.held ≡ over l.i (marks_from 32 l.s) blanks)
+
+abbrev pub decreases-loop-i : goal.decreases-loop-i
+decreases-loop-i l = 32 - l.i

@@ -1,0 +1,12 @@
+use mathlib.Core.Path.{sym, ◌∙◌}
+use Rattle.marks.specs.Marks.{dropping}
+use Rattle.marks.specs.Judging.{lent_of}
+use Rattle.marks.specs.ChangeLaws.{change-stopped, change-tried}
+use borrow.Author.Rules.{rules}
+use Rattle.marks.proofs.change.drop_after.Goals as goal
+
+pub returns-then-before-ne0 : goal.returns-then-before-ne0
+returns-then-before-ne0 c = let a = c.args in c.refuse.ensures ∙ sym (change-stopped a.before c.if-before-ne0.true a.t (dropping a.n (lent_of a.t) a.i))
+
+pub returns : goal.returns
+returns c = let a = c.args in c.drop_in.ensures ∙ sym (change-tried a.before c.if-before-ne0.false a.t (dropping a.n (lent_of a.t) a.i))

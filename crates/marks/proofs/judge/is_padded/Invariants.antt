@@ -1,0 +1,15 @@
+use borrow.Author.Tests.{not-true, not-false}
+use Prim.Native.Nat.{◌-◌, ◌≤◌}
+use native.Mathlib.Omega.{arith}
+use mathlib.Core.Path.{◌≡◌, sym, ◌∙◌}
+use borrow.Author.Rules.{rules}
+use lib.ListN.{length, drop}
+use Rattle.marks.specs.Judging.{padded}
+use Rattle.marks.specs.JudgeLaws.{padded-next, padded-stop, padded-start, padded-over}
+use Rattle.marks.proofs.judge.is_padded.Given as goal
+
+abbrev pub invariant-loop-j : goal.invariant-loop-j
+invariant-loop-j l = (l.j ≤ 16) × (padded l.k l.m.name ≡ padded (l.k - l.j) (drop l.j l.m.name))
+
+abbrev pub decreases-loop-j : goal.decreases-loop-j
+decreases-loop-j l = 16 - l.j
