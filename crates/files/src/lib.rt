@@ -11,7 +11,7 @@ use std::random::RandomSource;
 use std::{fmt, fs, io};
 
 // What reading a file gave: whether it was read, and how many bytes it has, as far as the buffer goes.
-#[derive(Drop)]
+#[derive(Clone, Copy)]
 pub struct Read {
     pub done: bool,
     pub length: usize,
