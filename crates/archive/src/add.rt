@@ -21,7 +21,7 @@ use xml::tape::clear;
 use xml::writer::put_part;
 
 // An archive's nodes and bytes.
-#[derive(Drop)]
+#[derive(Clone, Copy)]
 pub struct Size {
     pub nodes: usize,
     pub bytes: usize,

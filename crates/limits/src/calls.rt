@@ -1,5 +1,5 @@
 // The calls, each writing its line; `room` is the output's length.
-ghost use Rattle.io.specs.Counts.{IsPrefixLen};
+ghost use Rattle.std.specs.Prelude.{◌≤◌, length};
 
 use crate::line::{line, table_line, version_line};
 use archive::Answer;
@@ -15,13 +15,14 @@ use marks::Table;
 use marks::entries::blank;
 
 // Checking a key list.
-pub fn checks(name: &[u8], keys: &[u8], work: &mut [u32]) {
+pub fn checks(rt: &HostRuntime, name: &[u8], keys: &[u8], work: &mut [u32]) {
     let answer = check_keys(keys, work);
-    line(name, answer, b"");
+    line(rt, name, answer, b"");
 }
 
 // Founding; answers the result's length.
 pub fn founds(
+    rt: &HostRuntime,
     name: &[u8],
     keys: &[u8],
     version: &[u8],
@@ -29,16 +30,17 @@ pub fn founds(
     out: &mut [u8],
     work: &mut [u32],
 ) -> usize
-    ensures { IsPrefixLen result out.new }
+    ensures { result ≤ length out.new }
 {
     let n = within(room, out);
     let answer = found(keys, version, &mut out[..n], work);
-    line(name, answer, out);
+    line(rt, name, answer, out);
     within(answer.length, out)
 }
 
 // Adding; answers the result's length.
 pub fn adds(
+    rt: &HostRuntime,
     name: &[u8],
     keys: &[u8],
     archive: &[u8],
@@ -47,16 +49,17 @@ pub fn adds(
     out: &mut [u8],
     work: &mut [u32],
 ) -> usize
-    ensures { IsPrefixLen result out.new }
+    ensures { result ≤ length out.new }
 {
     let n = within(room, out);
     let answer = add_version(keys, archive, version, &mut out[..n], work);
-    line(name, answer, out);
+    line(rt, name, answer, out);
     within(answer.length, out)
 }
 
 // Retrieving.
 pub fn retrieves(
+    rt: &HostRuntime,
     name: &[u8],
     keys: &[u8],
     archive: &[u8],
@@ -67,11 +70,12 @@ pub fn retrieves(
 ) {
     let n = within(room, out);
     let answer = retrieve(keys, archive, i, &mut out[..n], work);
-    line(name, answer, out);
+    line(rt, name, answer, out);
 }
 
 // A history.
 pub fn gives_history(
+    rt: &HostRuntime,
     name: &[u8],
     keys: &[u8],
     archive: &[u8],
@@ -82,14 +86,21 @@ pub fn gives_history(
 ) {
     let n = within(room, out);
     let answer = give_history(keys, archive, address, &mut out[..n], work);
-    line(name, answer, out);
+    line(rt, name, answer, out);
 }
 
 // The longest history line.
-pub fn gives_longest(name: &[u8], of: usize, room: usize, out: &mut [u8], work: &mut [u32]) {
+pub fn gives_longest(
+    rt: &HostRuntime,
+    name: &[u8],
+    of: usize,
+    room: usize,
+    out: &mut [u8],
+    work: &mut [u32],
+) {
     let n = within(room, out);
     let answer = longest_history(of, &mut out[..n], work);
-    line(name, answer, out);
+    line(rt, name, answer, out);
 }
 
 // The answer of a call over a table.
@@ -102,6 +113,7 @@ fn answer_of(m: Marked) -> Answer {
 
 // Stepping back, with a table of unused entries.
 pub fn steps_back(
+    rt: &HostRuntime,
     name: &[u8],
     keys: &[u8],
     archive: &[u8],
@@ -112,11 +124,12 @@ pub fn steps_back(
 ) {
     let n = within(room, out);
     let m = step_back(keys, archive, blank(32), i, &mut out[..n], work);
-    line(name, answer_of(m), out);
+    line(rt, name, answer_of(m), out);
 }
 
 // Stepping back, with marks.
 pub fn steps_back_marked(
+    rt: &HostRuntime,
     name: &[u8],
     keys: &[u8],
     archive: &[u8],
@@ -129,11 +142,12 @@ pub fn steps_back_marked(
     let n = within(room, out);
     let m = step_back(keys, archive, t, i, &mut out[..n], work);
     let left = m.table;
-    table_line(name, answer_of(m), left, out);
+    table_line(rt, name, answer_of(m), left, out);
 }
 
 // Stepping back to a mark.
 pub fn steps_back_to_mark(
+    rt: &HostRuntime,
     name: &[u8],
     keys: &[u8],
     archive: &[u8],
@@ -146,11 +160,12 @@ pub fn steps_back_to_mark(
     let n = within(room, out);
     let m = step_back_to_mark(keys, archive, t, mark, &mut out[..n], work);
     let left = m.table;
-    table_line(name, answer_of(m), left, out);
+    table_line(rt, name, answer_of(m), left, out);
 }
 
 // Setting a mark; answers the table left.
 pub fn sets(
+    rt: &HostRuntime,
     name: &[u8],
     keys: &[u8],
     archive: &[u8],
@@ -161,16 +176,24 @@ pub fn sets(
 ) -> Table {
     let m = set_mark(keys, archive, t, mark, i, work);
     let left = m.table;
-    table_line(name, answer_of(m), left, b"");
+    table_line(rt, name, answer_of(m), left, b"");
     left
 }
 
 // Finding a mark.
-pub fn finds(name: &[u8], keys: &[u8], archive: &[u8], t: Table, mark: &[u8], work: &mut [u32]) {
+pub fn finds(
+    rt: &HostRuntime,
+    name: &[u8],
+    keys: &[u8],
+    archive: &[u8],
+    t: Table,
+    mark: &[u8],
+    work: &mut [u32],
+) {
     let f = find_mark(keys, archive, t, mark, work);
     let answer = Answer {
         number: f.number,
         length: f.length,
     };
-    version_line(name, answer, f.version);
+    version_line(rt, name, answer, f.version);
 }

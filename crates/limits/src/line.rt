@@ -3,13 +3,12 @@ ghost use Rattle.std.specs.Prelude.{◌<◌};
 
 use archive::Answer;
 use files::within;
-use libc::STDOUT_FILENO;
 use marks::Table;
 use marks::bytes::put_table;
 
 // Writes to standard output.
-fn say(words: &[u8]) {
-    io::write_all(STDOUT_FILENO, words);
+fn say(rt: &HostRuntime, words: &[u8]) {
+    let _ = rt.write_all(words);
 }
 
 // One more byte of a sum.
@@ -42,42 +41,38 @@ fn checksum(bytes: &[u8]) -> u64 {
 }
 
 // A case's name, the number, the length and, of a result, its bytes or, where they are over 120, their checksum.
-fn case(name: &[u8], answer: Answer, out: &[u8]) {
-    say(name);
-    say(b": ");
-    io::print_decimal(STDOUT_FILENO, answer.number as u64);
-    say(b" ");
-    io::print_decimal(STDOUT_FILENO, answer.length as u64);
-    let n = within(answer.length, out);
+fn case(rt: &HostRuntime, name: &[u8], answer: Answer, out: &[u8]) {
+    let number = answer.number;
+    let length = answer.length;
+    say(rt, name);
+    let _ = print!(rt; ": {number} {length}");
+    let n = within(length, out);
     if 120 < n {
-        say(b" sum ");
-        io::print_hex(STDOUT_FILENO, checksum(&out[..n]), 8);
+        let sum = checksum(&out[..n]);
+        let _ = print!(rt; " sum {sum:08x}");
     } else if 0 < n {
-        say(b" ");
-        say(&out[..n]);
+        say(rt, b" ");
+        say(rt, &out[..n]);
     }
 }
 
 // The line of a call over no table.
-pub fn line(name: &[u8], answer: Answer, out: &[u8]) {
-    case(name, answer, out);
-    say(b"\n");
+pub fn line(rt: &HostRuntime, name: &[u8], answer: Answer, out: &[u8]) {
+    case(rt, name, answer, out);
+    say(rt, b"\n");
 }
 
 // The line of a call that leaves a table: its checksum too.
-pub fn table_line(name: &[u8], answer: Answer, t: Table, out: &[u8]) {
+pub fn table_line(rt: &HostRuntime, name: &[u8], answer: Answer, t: Table, out: &[u8]) {
     let mut bytes = [0u8; 608];
     put_table(t, &mut bytes);
-    case(name, answer, out);
-    say(b" table ");
-    io::print_hex(STDOUT_FILENO, checksum(&bytes), 8);
-    say(b"\n");
+    case(rt, name, answer, out);
+    let sum = checksum(&bytes);
+    let _ = print!(rt; " table {sum:08x}\n");
 }
 
 // The line of a call that finds a version.
-pub fn version_line(name: &[u8], answer: Answer, version: usize) {
-    case(name, answer, b"");
-    say(b" version ");
-    io::print_decimal(STDOUT_FILENO, version as u64);
-    say(b"\n");
+pub fn version_line(rt: &HostRuntime, name: &[u8], answer: Answer, version: usize) {
+    case(rt, name, answer, b"");
+    let _ = print!(rt; " version {version}\n");
 }

@@ -14,30 +14,38 @@ mod vacant;
 mod version;
 
 // The limits.
-fn limit(keys: &[u8], text: &mut [u8], a: &mut [u8], b: &mut [u8], work: &mut [u32]) {
-    size::sizes(keys, text, a, work);
-    output::outputs(keys, a, work);
-    version::versions(keys, a, b, work);
+fn limit(
+    rt: &HostRuntime,
+    keys: &[u8],
+    text: &mut [u8],
+    a: &mut [u8],
+    b: &mut [u8],
+    work: &mut [u32],
+) {
+    size::sizes(rt, keys, text, a, work);
+    output::outputs(rt, keys, a, work);
+    version::versions(rt, keys, a, b, work);
 }
 
 // The refusals.
-fn refuse(keys: &[u8], text: &mut [u8], a: &mut [u8], work: &mut [u32]) {
-    refusal::key_refusals(keys, text, work);
-    refusal::version_refusals(keys, text, a, work);
-    refusal::archive_refusals(keys, a, work);
+fn refuse(rt: &HostRuntime, keys: &[u8], text: &mut [u8], a: &mut [u8], work: &mut [u32]) {
+    refusal::key_refusals(rt, keys, text, work);
+    refusal::version_refusals(rt, keys, text, a, work);
+    refusal::archive_refusals(rt, keys, a, work);
 }
 
-fn main() {
+fn main(rt: HostRuntime) {
+    let rt = &rt;
     let keys = b"(/, (s, {}))\n(/s, (f, {}))\n(/s, (k, {p}))\n";
     let mut text = [0u8; 16384];
     let mut a = [0u8; 32768];
     let mut b = [0u8; 32768];
     let mut work = [0u32; 16384];
-    limit(keys, &mut text, &mut a, &mut b, &mut work);
-    refuse(keys, &mut text, &mut a, &mut work);
-    size::archive_nodes(keys, &mut text, &mut a, &mut b, &mut work);
-    mark::marks(keys, &mut a, &mut work);
-    vacant::vacancies(keys, &mut text, &mut a, &mut work);
-    longest::lines(keys, &mut text, &mut a, &mut work);
-    line_end::line_ends(keys, &mut text, &mut a, &mut b, &mut work);
+    limit(rt, keys, &mut text, &mut a, &mut b, &mut work);
+    refuse(rt, keys, &mut text, &mut a, &mut work);
+    size::archive_nodes(rt, keys, &mut text, &mut a, &mut b, &mut work);
+    mark::marks(rt, keys, &mut a, &mut work);
+    vacant::vacancies(rt, keys, &mut text, &mut a, &mut work);
+    longest::lines(rt, keys, &mut text, &mut a, &mut work);
+    line_end::line_ends(rt, keys, &mut text, &mut a, &mut b, &mut work);
 }

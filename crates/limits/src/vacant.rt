@@ -4,40 +4,55 @@ use crate::text::put_times;
 use marks::entries::blank;
 
 // Founding from a version that is empty or white space alone.
-fn first_versions(keys: &[u8], text: &mut [u8], out: &mut [u8], work: &mut [u32]) {
-    founds(b"vacant exact", keys, b"", 13, out, work);
-    founds(b"vacant short", keys, b" \t\r\n", 12, out, work);
+fn first_versions(
+    rt: &HostRuntime,
+    keys: &[u8],
+    text: &mut [u8],
+    out: &mut [u8],
+    work: &mut [u32],
+) {
+    founds(rt, b"vacant exact", keys, b"", 13, out, work);
+    founds(rt, b"vacant short", keys, b" \t\r\n", 12, out, work);
     let spaces = put_times(text, 0, b" ", 16384);
-    founds(b"16,384 spaces", keys, &text[..spaces], 32768, out, work);
+    founds(
+        rt,
+        b"16,384 spaces",
+        keys,
+        &text[..spaces],
+        32768,
+        out,
+        work,
+    );
 }
 
 // Adding to an archive whose every version is vacant.
-fn unlit_adds(keys: &[u8], out: &mut [u8], work: &mut [u32]) {
+fn unlit_adds(rt: &HostRuntime, keys: &[u8], out: &mut [u8], work: &mut [u32]) {
     let one = b"<T t=\"1\"></T>";
     let two = b"<T t=\"1-2\"></T>";
     let lit = b"<s><f>x</f></s>";
-    adds(b"vacant twice", keys, one, b"", 32768, out, work);
-    adds(b"lit at last", keys, two, lit, 32768, out, work);
+    adds(rt, b"vacant twice", keys, one, b"", 32768, out, work);
+    adds(rt, b"lit at last", keys, two, lit, 32768, out, work);
 }
 
 // Striking a station off, and relighting it.
-fn struck_adds(keys: &[u8], out: &mut [u8], work: &mut [u32]) {
+fn struck_adds(rt: &HostRuntime, keys: &[u8], out: &mut [u8], work: &mut [u32]) {
     let lit = b"<T t=\"1-2\"><s><T t=\"1\"><f>x</f></T></s></T>";
     let off = b"<T t=\"1-3\"><T t=\"1-2\"><s><T t=\"1\"><f>x</f></T></s></T></T>";
-    adds(b"struck off", keys, lit, b"\n", 32768, out, work);
-    adds(b"relit", keys, off, b"<s/>", 32768, out, work);
+    adds(rt, b"struck off", keys, lit, b"\n", 32768, out, work);
+    adds(rt, b"relit", keys, off, b"<s/>", 32768, out, work);
 }
 
 // Versions of the relit station.
-fn relit_versions(keys: &[u8], relit: &[u8], out: &mut [u8], work: &mut [u32]) {
-    retrieves(b"retrieve vacant", keys, relit, 3, 0, out, work);
-    retrieves(b"retrieve relit", keys, relit, 4, 32768, out, work);
+fn relit_versions(rt: &HostRuntime, keys: &[u8], relit: &[u8], out: &mut [u8], work: &mut [u32]) {
+    retrieves(rt, b"retrieve vacant", keys, relit, 3, 0, out, work);
+    retrieves(rt, b"retrieve relit", keys, relit, 4, 32768, out, work);
 }
 
 // Histories of a root.
-fn root_histories(keys: &[u8], relit: &[u8], out: &mut [u8], work: &mut [u32]) {
+fn root_histories(rt: &HostRuntime, keys: &[u8], relit: &[u8], out: &mut [u8], work: &mut [u32]) {
     let unlit = b"<T t=\"1-2\"></T>";
     gives_history(
+        rt,
         b"history of a relit root",
         keys,
         relit,
@@ -46,20 +61,21 @@ fn root_histories(keys: &[u8], relit: &[u8], out: &mut [u8], work: &mut [u32]) {
         out,
         work,
     );
-    gives_history(b"history of no root", keys, unlit, b"/s", 0, out, work);
+    gives_history(rt, b"history of no root", keys, unlit, b"/s", 0, out, work);
 }
 
 // Steps back to vacant versions and across them.
-fn vacant_backs(keys: &[u8], relit: &[u8], out: &mut [u8], work: &mut [u32]) {
+fn vacant_backs(rt: &HostRuntime, keys: &[u8], relit: &[u8], out: &mut [u8], work: &mut [u32]) {
     let lit = b"<T t=\"1-3\"><T t=\"3\"><s><f>x</f></s></T></T>";
-    steps_back(b"back to vacant", keys, relit, 3, 32768, out, work);
-    steps_back(b"back past vacant", keys, relit, 2, 32768, out, work);
-    steps_back(b"back to no root", keys, lit, 2, 32768, out, work);
+    steps_back(rt, b"back to vacant", keys, relit, 3, 32768, out, work);
+    steps_back(rt, b"back past vacant", keys, relit, 2, 32768, out, work);
+    steps_back(rt, b"back to no root", keys, lit, 2, 32768, out, work);
 }
 
 // A mark of a vacant version.
-fn vacant_marks(keys: &[u8], relit: &[u8], out: &mut [u8], work: &mut [u32]) {
+fn vacant_marks(rt: &HostRuntime, keys: &[u8], relit: &[u8], out: &mut [u8], work: &mut [u32]) {
     let t = sets(
+        rt,
         b"mark of a vacant version",
         keys,
         relit,
@@ -69,6 +85,7 @@ fn vacant_marks(keys: &[u8], relit: &[u8], out: &mut [u8], work: &mut [u32]) {
         work,
     );
     steps_back_to_mark(
+        rt,
         b"back to the vacant mark",
         keys,
         relit,
@@ -81,37 +98,55 @@ fn vacant_marks(keys: &[u8], relit: &[u8], out: &mut [u8], work: &mut [u32]) {
 }
 
 // Sets of a root that no archive has.
-fn root_refusals(keys: &[u8], out: &mut [u8], work: &mut [u32]) {
+fn root_refusals(rt: &HostRuntime, keys: &[u8], out: &mut [u8], work: &mut [u32]) {
     let empty = b"<T t=\"1\"><T t=\"\"><s></s></T></T>";
     let shortened = b"<T t=\"1\"><T t=\"1-2\"><s></s></T></T>";
     let repeated = b"<T t=\"1\"><T t=\"1\"><s></s></T></T>";
-    retrieves(b"empty set", keys, empty, 1, 32768, out, work);
-    retrieves(b"outer set shortened", keys, shortened, 1, 32768, out, work);
-    retrieves(b"outer set repeated", keys, repeated, 1, 32768, out, work);
+    retrieves(rt, b"empty set", keys, empty, 1, 32768, out, work);
+    retrieves(
+        rt,
+        b"outer set shortened",
+        keys,
+        shortened,
+        1,
+        32768,
+        out,
+        work,
+    );
+    retrieves(
+        rt,
+        b"outer set repeated",
+        keys,
+        repeated,
+        1,
+        32768,
+        out,
+        work,
+    );
 }
 
 // 999 vacant versions, and one more.
-fn last_vacant(keys: &[u8], out: &mut [u8], work: &mut [u32]) {
+fn last_vacant(rt: &HostRuntime, keys: &[u8], out: &mut [u8], work: &mut [u32]) {
     let full = b"<T t=\"1-999\"></T>";
-    retrieves(b"999 vacant", keys, full, 999, 0, out, work);
-    adds(b"1,000 vacant", keys, full, b"", 32768, out, work);
+    retrieves(rt, b"999 vacant", keys, full, 999, 0, out, work);
+    adds(rt, b"1,000 vacant", keys, full, b"", 32768, out, work);
 }
 
 // A station that is relit.
-fn relit_station(keys: &[u8], out: &mut [u8], work: &mut [u32]) {
+fn relit_station(rt: &HostRuntime, keys: &[u8], out: &mut [u8], work: &mut [u32]) {
     let relit = b"<T t=\"1-4\"><T t=\"1-2,4\"><s><T t=\"1\"><f>x</f></T></s></T></T>";
-    relit_versions(keys, relit, out, work);
-    root_histories(keys, relit, out, work);
-    vacant_backs(keys, relit, out, work);
-    vacant_marks(keys, relit, out, work);
+    relit_versions(rt, keys, relit, out, work);
+    root_histories(rt, keys, relit, out, work);
+    vacant_backs(rt, keys, relit, out, work);
+    vacant_marks(rt, keys, relit, out, work);
 }
 
 // Vacant versions.
-pub fn vacancies(keys: &[u8], text: &mut [u8], out: &mut [u8], work: &mut [u32]) {
-    first_versions(keys, text, out, work);
-    unlit_adds(keys, out, work);
-    struck_adds(keys, out, work);
-    relit_station(keys, out, work);
-    root_refusals(keys, out, work);
-    last_vacant(keys, out, work);
+pub fn vacancies(rt: &HostRuntime, keys: &[u8], text: &mut [u8], out: &mut [u8], work: &mut [u32]) {
+    first_versions(rt, keys, text, out, work);
+    unlit_adds(rt, keys, out, work);
+    struck_adds(rt, keys, out, work);
+    relit_station(rt, keys, out, work);
+    root_refusals(rt, keys, out, work);
+    last_vacant(rt, keys, out, work);
 }

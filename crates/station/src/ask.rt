@@ -40,7 +40,7 @@ pub fn ask(
 }
 
 // What is told of a call over a table: the number of a refusal or 0, the length of the result, the version found, and the table after the call.
-#[derive(Drop)]
+#[derive(Clone, Copy)]
 pub struct Told {
     pub number: u32,
     pub length: usize,

@@ -5,7 +5,7 @@ ghost use Rattle.station.specs.Number.{digit_of, number_of};
 use xml::writer::least;
 
 // Whether a word is a number, and its value; 1,000 stands for all from there on, as no archive has such a version.
-#[derive(Drop)]
+#[derive(Clone, Copy)]
 pub struct Numeral {
     pub valid: bool,
     pub value: usize,

@@ -3,22 +3,21 @@
 
 ghost use Rattle.std.specs.Prelude.{◌≡◌, ◌≤◌, length};
 
-use libc::STDOUT_FILENO;
 use xml::Reply;
 use xml::panel::{Canon, canonical};
 use xml::reader::read;
 use xml::spelling::spelled;
 
-fn say(word: &[u8]) {
-    io::write_all(STDOUT_FILENO, word);
+fn say(rt: &HostRuntime, word: &[u8]) {
+    let _ = rt.write_all(word);
 }
 
 // `=` where a text is spelled as it is written, `~` where it is not.
-fn say_spelling(neat: bool) {
+fn say_spelling(rt: &HostRuntime, neat: bool) {
     if neat {
-        say(b"= ");
+        say(rt, b"= ");
     } else {
-        say(b"~ ");
+        say(rt, b"~ ");
     }
 }
 
@@ -48,39 +47,41 @@ fn is_spelled(text: &[u8]) -> bool {
 }
 
 // The form of a text, or the refusal, with so many cells of a tape and so many bytes of an output.
-fn show(text: &[u8], cells: usize, room: usize)
-    requires { (cells ≤ 256) × (room ≤ 256) }
+fn show(rt: &HostRuntime, text: &[u8], cells: usize, room: usize)
+    requires cells { cells ≤ 256 }
+    requires room { room ≤ 256 }
 {
     let mut tape = cells_256();
     let mut out = bytes_256();
     match canonical(text, &mut tape[..cells], &mut out[..room]) {
         Canon::Done(n) => {
-            say_spelling(is_spelled(text));
-            say(&out[..n]);
+            say_spelling(rt, is_spelled(text));
+            say(rt, &out[..n]);
         }
-        Canon::Long => say(b"! longer than 16384"),
-        Canon::Narrow => say(b"! tape too short"),
+        Canon::Long => say(rt, b"! longer than 16384"),
+        Canon::Narrow => say(rt, b"! tape too short"),
         Canon::Wrong(p) => {
-            say(b"! wrong at ");
-            io::print_decimal(STDOUT_FILENO, p as u64);
+            let _ = print!(rt; "! wrong at {p}");
         }
-        Canon::Short => say(b"! output too short"),
+        Canon::Short => say(rt, b"! output too short"),
     }
-    say(b"\n");
+    say(rt, b"\n");
 }
 
 // Texts that have a form.
-fn right() {
+fn right(rt: &HostRuntime) {
     show(
+        rt,
         b"<station><light>Fl 5s</light><lamp><pos>2</pos><type>A</type><hours>40</hours></lamp></station>",
         256,
         256,
     );
-    show(b" \t<a>1&amp;<b/> x</a>\r\n", 256, 256);
-    show(b"<a>&lt;]]&gt;x>&quot;&apos;&amp;</a>", 256, 256);
-    show(b"<a><b><c><d>deep</d></c></b><b></b></a>", 256, 256);
-    show(b"<T><T/></T>", 256, 256);
+    show(rt, b" \t<a>1&amp;<b/> x</a>\r\n", 256, 256);
+    show(rt, b"<a>&lt;]]&gt;x>&quot;&apos;&amp;</a>", 256, 256);
+    show(rt, b"<a><b><c><d>deep</d></c></b><b></b></a>", 256, 256);
+    show(rt, b"<T><T/></T>", 256, 256);
     show(
+        rt,
         b"<a>a longer run of text, copied in one piece; then &gt; and another</a>",
         256,
         256,
@@ -88,22 +89,23 @@ fn right() {
 }
 
 // Texts that are refused, each at its first wrong byte.
-fn wrong() {
-    show(b"", 256, 256);
-    show(b"<a>", 256, 256);
-    show(b"<a></b>", 256, 256);
-    show(b"<a>]]></a>", 256, 256);
-    show(b"<a>&lx;</a>", 256, 256);
-    show(b"<a/><b/>", 256, 256);
-    show(b"<a x=\"1\"/>", 256, 256);
-    show(b"<T t=\"1\"></T>", 256, 256);
+fn wrong(rt: &HostRuntime) {
+    show(rt, b"", 256, 256);
+    show(rt, b"<a>", 256, 256);
+    show(rt, b"<a></b>", 256, 256);
+    show(rt, b"<a>]]></a>", 256, 256);
+    show(rt, b"<a>&lx;</a>", 256, 256);
+    show(rt, b"<a/><b/>", 256, 256);
+    show(rt, b"<a x=\"1\"/>", 256, 256);
+    show(rt, b"<T t=\"1\"></T>", 256, 256);
 }
 
-fn main() {
-    right();
-    wrong();
-    show(b"<a>x<b/></a>", 11, 15);
-    show(b"<a>x<b/></a>", 12, 15);
-    show(b"<a>x<b/></a>", 12, 14);
-    show(&[32u8; 16385], 256, 256);
+fn main(rt: HostRuntime) {
+    let rt = &rt;
+    right(rt);
+    wrong(rt);
+    show(rt, b"<a>x<b/></a>", 11, 15);
+    show(rt, b"<a>x<b/></a>", 12, 15);
+    show(rt, b"<a>x<b/></a>", 12, 14);
+    show(rt, &[32u8; 16385], 256, 256);
 }

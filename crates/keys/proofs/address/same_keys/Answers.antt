@@ -95,7 +95,7 @@ returns-then-not-same_bytes c =
     let o = c.loop-j in
     let l : o.j < length (key_names_at K p) = omega (arith, c.key_count-count.ensures a.text.now K p t e, c.loop-j-test.true) in
     let q = rw c.view_at-v.ensures at c.same_bytes.ensures in
-    sym (o.invariant.1 K p t e f h ∙ keys-differ a.s.now a.keys (key_names_at K p) f o.j l (long K p t e) (key-name-is t p a.own e o.j l) (value f h).bytes-are (sym q ∙ not-true _ c.if-not-same_bytes.true-raw))
+    sym (o.invariant.1 K p t e f h ∙ keys-differ a.s.now a.keys (key_names_at K p) f o.j l (long K p t e) (key-name-is t p a.own e o.j l) (value f h).bytes-are (sym q ∙ c.if-not-same_bytes.true))
 
 pub overflow_add-j : goal.overflow_add-j
 overflow_add-j c = omega arith
@@ -111,7 +111,7 @@ loop-j-preserved c =
     let value : (f : Forest) → Tape c.args.src.now c.args.tape.now c.args.lo c.args.hi f → Node c.args.src.now c.args.tape.now (c.find_key-x.result + 1) 0 (value_in (called (key_bytes c.args.text.now c.args.table.now (c.args.own + 1 + c.loop-j.j)) f)) = value-node c.loop-j.j c.requires.keyed (own_key) c.find_key-x.result (rw c.key_name-key.ensures at c.find_key-x.ensures) in
     let a = c.args in
     let o = c.loop-j in
-    (omega arith, λ K p t e f h. let l : o.j < length (key_names_at K p) = omega (arith, c.key_count-count.ensures a.text.now K p t e, c.loop-j-test.true) in let q = rw c.view_at-v.ensures at c.same_bytes.ensures in (o.invariant.1 K p t e f h ∙ keys_on a.s.now a.keys (key_names_at K p) f o.j l (long K p t e) (key-name-is t p a.own e o.j l) (value f h).bytes-are (sym q ∙ not-false _ c.if-not-same_bytes.false-raw)))
+    (omega arith, λ K p t e f h. let l : o.j < length (key_names_at K p) = omega (arith, c.key_count-count.ensures a.text.now K p t e, c.loop-j-test.true) in let q = rw c.view_at-v.ensures at c.same_bytes.ensures in (o.invariant.1 K p t e f h ∙ keys_on a.s.now a.keys (key_names_at K p) f o.j l (long K p t e) (key-name-is t p a.own e o.j l) (value f h).bytes-are (sym q ∙ c.if-not-same_bytes.false)))
 
 pub returns : goal.returns
 returns c =

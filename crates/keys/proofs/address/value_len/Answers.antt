@@ -29,7 +29,7 @@ returns-then-not-is_name_byte c = let src = c.args.s.now in
     let n = c.loop-n.n in
     let k = c.is_name_byte in
     let h : at + n < length src = omega (arith, ltb-true) in
-    omega (arith, name_rest-stop src (at + n) (33 - n) h (sym k.ensures ∙ not-true _ c.if-not-is_name_byte.true-raw))
+    omega (arith, name_rest-stop src (at + n) (33 - n) h (sym k.ensures ∙ c.if-not-is_name_byte.true))
 
 pub overflow_add-n : goal.overflow_add-n
 overflow_add-n c = omega (arith, ltb-true)
@@ -45,7 +45,7 @@ loop-n-preserved c = let src = c.args.s.now in
     let h : at + n < length src = omega (arith, ltb-true) in
     let more =
     name_rest-more src (at + n) (33 - n) (33 - (n + 1)) (at + (n + 1)) h
-    (sym k.ensures ∙ not-false _ c.if-not-is_name_byte.false-raw) (omega arith) (omega arith)
+    (sym k.ensures ∙ c.if-not-is_name_byte.false) (omega arith) (omega arith)
     in
     (omega arith, omega arith, omega arith)
 

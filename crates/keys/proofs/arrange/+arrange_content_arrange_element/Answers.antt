@@ -22,7 +22,7 @@ arrange_content-is_above-requires t c = c.requires.0.tabled.held
 
 pub arrange_content-copy-requires : goal.arrange_content-copy-requires
 arrange_content-copy-requires t c =
-    let low : OfPlace c.args.text.now c.args.table.now c.args.n c.args.place (λ K o. above K o ≡ false) = λ K o u e. sym (c.is_above.ensures c.args.text.now K o u e) ∙ not-true c.is_above.result c.if-not-is_above.true-raw in
+    let low : OfPlace c.args.text.now c.args.table.now c.args.n c.args.place (λ K o. above K o ≡ false) = λ K o u e. sym (c.is_above.ensures c.args.text.now K o u e) ∙ c.if-not-is_above.true in
     let few : c.args.m + c.args.hi ≤ 512 + c.args.lo = let g = c.requires.0 in fit-few g (low g.key_list g.path g.tabled g.place_is) in
     (fit-linked c.requires.0, few, c.requires.1)
 
@@ -31,7 +31,7 @@ arrange_content-shape_of-out-then-not-is_above t c = c.copy.ensures.size
 
 pub arrange_content-returns-then-not-is_above : goal.arrange_content-returns-then-not-is_above
 arrange_content-returns-then-not-is_above t c =
-    let low : OfPlace c.args.text.now c.args.table.now c.args.n c.args.place (λ K o. above K o ≡ false) = λ K o u e. sym (c.is_above.ensures c.args.text.now K o u e) ∙ not-true c.is_above.result c.if-not-is_above.true-raw in
+    let low : OfPlace c.args.text.now c.args.table.now c.args.n c.args.place (λ K o. above K o ≡ false) = λ K o u e. sym (c.is_above.ensures c.args.text.now K o u e) ∙ c.if-not-is_above.true in
     let few : c.args.m + c.args.hi ≤ 512 + c.args.lo = let g = c.requires.0 in fit-few g (low g.key_list g.path g.tabled g.place_is) in
     content-copied c.requires.0 c.args.out.now low c.copy.ensures few c.requires.1
 
@@ -40,13 +40,13 @@ arrange_content-order_in-k-requires t c = (fit-checked c.requires.0, fit-few-tag
 
 pub arrange_content-returns-then-k-eq513 : goal.arrange_content-returns-then-k-eq513
 arrange_content-returns-then-k-eq513 t c =
-    let high : above c.requires.0.key_list c.requires.0.path ≡ true = let g = c.requires.0 in sym (c.is_above.ensures c.args.text.now g.key_list g.path g.tabled g.place_is) ∙ not-false c.is_above.result c.if-not-is_above.false-raw in
+    let high : above c.requires.0.key_list c.requires.0.path ≡ true = let g = c.requires.0 in sym (c.is_above.ensures c.args.text.now g.key_list g.path g.tabled g.place_is) ∙ c.if-not-is_above.false in
     let listed : Sorted c.requires.0.key_list c.requires.0.path c.args.src.now c.args.tape.now c.args.lo c.args.hi c.order_in-k.new.order c.requires.0.forest c.order_in-k.result = let g = c.requires.0 in c.order_in-k.ensures.sorted g.key_list g.path g.tabled g.place_is g.forest g.tape in
     fit-twice c.requires.0 c.args.out.now c.order_in-k.new.order c.order_in-k.result high listed c.if-k-eq513.true
 
 pub arrange_content-loop-j-init : goal.arrange_content-loop-j-init
 arrange_content-loop-j-init t c =
-    let high : above c.requires.0.key_list c.requires.0.path ≡ true = let g = c.requires.0 in sym (c.is_above.ensures c.args.text.now g.key_list g.path g.tabled g.place_is) ∙ not-false c.is_above.result c.if-not-is_above.false-raw in
+    let high : above c.requires.0.key_list c.requires.0.path ≡ true = let g = c.requires.0 in sym (c.is_above.ensures c.args.text.now g.key_list g.path g.tabled g.place_is) ∙ c.if-not-is_above.false in
     let listed : Sorted c.requires.0.key_list c.requires.0.path c.args.src.now c.args.tape.now c.args.lo c.args.hi c.order_in-k.new.order c.requires.0.forest c.order_in-k.result = let g = c.requires.0 in c.order_in-k.ensures.sorted g.key_list g.path g.tabled g.place_is g.forest g.tape in
     progress_start c.requires.0 c.args.out.now c.order_in-k.new.order c.order_in-k.result high listed c.if-k-eq513.false
 

@@ -23,12 +23,12 @@ returns-then-not-is_name_byte c = let src = c.args.src.now in
     let i = c.loop-i.i in
     let e = c.args.e in
     sym (value-names src c.args.a e (omega arith) (omega arith) (omega arith) ∙ c.loop-i.invariant.2
-    ∙ names-stop src i e (omega arith) (omega arith) (sym c.is_name_byte.ensures ∙ not-true _ c.if-not-is_name_byte.true-raw))
+    ∙ names-stop src i e (omega arith) (omega arith) (sym c.is_name_byte.ensures ∙ c.if-not-is_name_byte.true))
 
 pub loop-i-preserved : goal.loop-i-preserved
 loop-i-preserved c = let src = c.args.src.now in
     let i = c.loop-i.i in
-    (omega arith, omega arith, c.loop-i.invariant.2 ∙ names_more src i c.args.e (omega arith) (omega arith) (sym c.is_name_byte.ensures ∙ not-false _ c.if-not-is_name_byte.false-raw))
+    (omega arith, omega arith, c.loop-i.invariant.2 ∙ names_more src i c.args.e (omega arith) (omega arith) (sym c.is_name_byte.ensures ∙ c.if-not-is_name_byte.false))
 
 pub returns : goal.returns
 returns c = let src = c.args.src.now in

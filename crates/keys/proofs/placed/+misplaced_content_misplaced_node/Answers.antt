@@ -50,7 +50,7 @@ misplaced_node-is_above-requires t c = c.requires.1.placed.table.held
 pub misplaced_node-returns-then-not-is_above : goal.misplaced_node-returns-then-not-is_above
 misplaced_node-returns-then-not-is_above t c K q s e f h = let b = unescape 0 (bytes_at c.args.src.now c.args.tape.now c.args.p) in
     let k = rw c.view_at-v.ensures at c.if-v-eq0.true in
-    sym (astray-under K q b (text-node h c.requires.0 k) (sym (c.is_above.ensures c.args.text.now K q s e) ∙ not-true _ c.if-not-is_above.true-raw))
+    sym (astray-under K q b (text-node h c.requires.0 k) (sym (c.is_above.ensures c.args.text.now K q s e) ∙ c.if-not-is_above.true))
 
 pub misplaced_node-is_white-requires : goal.misplaced_node-is_white-requires
 misplaced_node-is_white-requires t c = rw c.view_at-v.ensures (omega (arith, (walk-front c.requires.1 c.requires.0).within))
@@ -59,7 +59,7 @@ pub misplaced_node-returns-then-v-eq0 : goal.misplaced_node-returns-then-v-eq0
 misplaced_node-returns-then-v-eq0 t c K q s e f h = let b = unescape 0 (bytes_at c.args.src.now c.args.tape.now c.args.p) in
     let k = rw c.view_at-v.ensures at c.if-v-eq0.true in
     ap not (rw c.view_at-v.ensures at c.is_white.ensures)
-    ∙ sym (astray-run K q b (text-node h c.requires.0 k) (sym (c.is_above.ensures c.args.text.now K q s e) ∙ not-false _ c.if-not-is_above.false-raw))
+    ∙ sym (astray-run K q b (text-node h c.requires.0 k) (sym (c.is_above.ensures c.args.text.now K q s e) ∙ c.if-not-is_above.false))
 
 pub misplaced_node-returns-then-v-ne1 : goal.misplaced_node-returns-then-v-ne1
 misplaced_node-returns-then-v-ne1 t c K q s e f h = let v = c.view_at-v.ensures in

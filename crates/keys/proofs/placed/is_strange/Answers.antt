@@ -19,9 +19,9 @@ returns-then-same_bytes c text K p t e d = sym (strange-named K p (slice c.args.
 pub returns-then-not-is_above : goal.returns-then-not-is_above
 unfolding bytes_compute
 returns-then-not-is_above c text K p t e d = sym (strange-under K p (slice c.args.a c.args.e c.args.src.now) (sym c.same_bytes.ensures ∙ c.if-same_bytes.false)
-    (sym (c.is_above.ensures text K p t e) ∙ not-true _ c.if-not-is_above.true-raw))
+    (sym (c.is_above.ensures text K p t e) ∙ c.if-not-is_above.true))
 
 pub returns : goal.returns
 unfolding bytes_compute
 returns c text K p t e d = strange-below K p (slice c.args.a c.args.e c.args.src.now) (table-rules t) (sym c.same_bytes.ensures ∙ c.if-same_bytes.false)
-    (sym (c.is_above.ensures text K p t e) ∙ not-false _ c.if-not-is_above.false-raw) d
+    (sym (c.is_above.ensures text K p t e) ∙ c.if-not-is_above.false) d

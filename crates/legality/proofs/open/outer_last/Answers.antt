@@ -26,9 +26,9 @@ up_to-requires c =
 pub returns-then-not-same : goal.returns-then-not-same
 returns-then-not-same c = sym (outer-other _ (set_of c.times_at-read.result.stamp.words) (set_of c.complement-gaps.result.words)
     (outcome-accepted c.times_at-read.result _ c.times_at-read.ensures (not-false _ c.if-not-read.false)) c.complement-gaps.ensures (c.next-n.result - 1) (ap (λ (x : ℕ). x - 1) c.next-n.ensures)
-    (sym (rw c.up_to.ensures at c.same.ensures) ∙ not-true _ c.if-not-same.true-raw))
+    (sym (rw c.up_to.ensures at c.same.ensures) ∙ c.if-not-same.true))
 
 pub returns : goal.returns
 returns c = sym (outer_same _ (set_of c.times_at-read.result.stamp.words) (set_of c.complement-gaps.result.words)
     (outcome-accepted c.times_at-read.result _ c.times_at-read.ensures (not-false _ c.if-not-read.false)) c.complement-gaps.ensures (c.next-n.result - 1) (ap (λ (x : ℕ). x - 1) c.next-n.ensures)
-    (sym (rw c.up_to.ensures at c.same.ensures) ∙ not-false _ c.if-not-same.false-raw))
+    (sym (rw c.up_to.ensures at c.same.ensures) ∙ c.if-not-same.false))

@@ -20,13 +20,13 @@ returns-then-not-is_mark_name c = let a = c.args in
 
 pub named_mark-m-requires : goal.named_mark-m-requires
 named_mark-m-requires c =
-    let named : is_mark_name c.args.name.now ≡ true = sym c.is_mark_name.ensures ∙ not-false c.is_mark_name.result c.if-not-is_mark_name.false-raw in
+    let named : is_mark_name c.args.name.now ≡ true = sym c.is_mark_name.ensures ∙ c.if-not-is_mark_name.false in
     name-fits c.args.name.now named
 
 pub returns-then-place_of-u : goal.returns-then-place_of-u
 unfolding number_of
 returns-then-place_of-u c =
-    let named : is_mark_name c.args.name.now ≡ true = sym c.is_mark_name.ensures ∙ not-false c.is_mark_name.result c.if-not-is_mark_name.false-raw in
+    let named : is_mark_name c.args.name.now ≡ true = sym c.is_mark_name.ensures ∙ c.if-not-is_mark_name.false in
     let place : (ks : List Named) → c.args.t.held ≡ entries ks → length ks ≡ c.args.u → c.place_of.result ≡ place_in c.args.name.now (map (λ k. k.name) ks) = λ ks e g. let a = c.args in c.place_of.ensures ∙ ap (λ m. place_in (name_of m) (map name_of (take a.u a.t.held))) c.named_mark-m.ensures ∙ place-among a.name.now 0 ks a.t.held a.u e g in
     let a = c.args in
     λ ks e g. c.refuse-then-place_of-u.ensures ∙ ap (changed_by a.t) (sym (set-held a.n ks a.name.now a.version named (omega (arith, place ks e g, g, c.if-place_of-u.true))))
@@ -34,7 +34,7 @@ returns-then-place_of-u c =
 pub returns-then-u-eq32 : goal.returns-then-u-eq32
 unfolding number_of
 returns-then-u-eq32 c =
-    let named : is_mark_name c.args.name.now ≡ true = sym c.is_mark_name.ensures ∙ not-false c.is_mark_name.result c.if-not-is_mark_name.false-raw in
+    let named : is_mark_name c.args.name.now ≡ true = sym c.is_mark_name.ensures ∙ c.if-not-is_mark_name.false in
     let place : (ks : List Named) → c.args.t.held ≡ entries ks → length ks ≡ c.args.u → c.place_of.result ≡ place_in c.args.name.now (map (λ k. k.name) ks) = λ ks e g. let a = c.args in c.place_of.ensures ∙ ap (λ m. place_in (name_of m) (map name_of (take a.u a.t.held))) c.named_mark-m.ensures ∙ place-among a.name.now 0 ks a.t.held a.u e g in
     let a = c.args in
     λ ks e g. c.refuse-then-u-eq32.ensures ∙ ap (changed_by a.t) (sym (set_full a.n ks a.name.now a.version named (omega (arith, place ks e g, g, c.if-place_of-u.false)) (g ∙ c.if-u-eq32.true)))
@@ -42,7 +42,7 @@ returns-then-u-eq32 c =
 pub returns-then-version-lt1 : goal.returns-then-version-lt1
 unfolding number_of
 returns-then-version-lt1 c =
-    let named : is_mark_name c.args.name.now ≡ true = sym c.is_mark_name.ensures ∙ not-false c.is_mark_name.result c.if-not-is_mark_name.false-raw in
+    let named : is_mark_name c.args.name.now ≡ true = sym c.is_mark_name.ensures ∙ c.if-not-is_mark_name.false in
     let place : (ks : List Named) → c.args.t.held ≡ entries ks → length ks ≡ c.args.u → c.place_of.result ≡ place_in c.args.name.now (map (λ k. k.name) ks) = λ ks e g. let a = c.args in c.place_of.ensures ∙ ap (λ m. place_in (name_of m) (map name_of (take a.u a.t.held))) c.named_mark-m.ensures ∙ place-among a.name.now 0 ks a.t.held a.u e g in
     let a = c.args in
     λ ks e g. c.refuse-then-version-lt1.ensures ∙ ap (changed_by a.t) (sym (set-zero a.n ks a.name.now a.version named (omega (arith, place ks e g, g, c.if-place_of-u.false)) (λ z. c.if-u-eq32.false (sym g ∙ z)) c.if-version-lt1.true))
@@ -50,19 +50,19 @@ returns-then-version-lt1 c =
 pub returns-then-n-version : goal.returns-then-n-version
 unfolding number_of
 returns-then-n-version c =
-    let named : is_mark_name c.args.name.now ≡ true = sym c.is_mark_name.ensures ∙ not-false c.is_mark_name.result c.if-not-is_mark_name.false-raw in
+    let named : is_mark_name c.args.name.now ≡ true = sym c.is_mark_name.ensures ∙ c.if-not-is_mark_name.false in
     let place : (ks : List Named) → c.args.t.held ≡ entries ks → length ks ≡ c.args.u → c.place_of.result ≡ place_in c.args.name.now (map (λ k. k.name) ks) = λ ks e g. let a = c.args in c.place_of.ensures ∙ ap (λ m. place_in (name_of m) (map name_of (take a.u a.t.held))) c.named_mark-m.ensures ∙ place-among a.name.now 0 ks a.t.held a.u e g in
     let a = c.args in
     λ ks e g. c.refuse-then-n-version.ensures ∙ ap (changed_by a.t) (sym (set-later a.n ks a.name.now a.version named (omega (arith, place ks e g, g, c.if-place_of-u.false)) (λ z. c.if-u-eq32.false (sym g ∙ z)) c.if-version-lt1.false c.if-n-version.true))
 
 pub named_mark-requires : goal.named_mark-requires
 named_mark-requires c =
-    let named : is_mark_name c.args.name.now ≡ true = sym c.is_mark_name.ensures ∙ not-false c.is_mark_name.result c.if-not-is_mark_name.false-raw in
+    let named : is_mark_name c.args.name.now ≡ true = sym c.is_mark_name.ensures ∙ c.if-not-is_mark_name.false in
     name-fits c.args.name.now named
 
 pub returns : goal.returns
 returns c =
-    let named : is_mark_name c.args.name.now ≡ true = sym c.is_mark_name.ensures ∙ not-false c.is_mark_name.result c.if-not-is_mark_name.false-raw in
+    let named : is_mark_name c.args.name.now ≡ true = sym c.is_mark_name.ensures ∙ c.if-not-is_mark_name.false in
     let place : (ks : List Named) → c.args.t.held ≡ entries ks → length ks ≡ c.args.u → c.place_of.result ≡ place_in c.args.name.now (map (λ k. k.name) ks) = λ ks e g. let a = c.args in c.place_of.ensures ∙ ap (λ m. place_in (name_of m) (map name_of (take a.u a.t.held))) c.named_mark-m.ensures ∙ place-among a.name.now 0 ks a.t.held a.u e g in
     let a = c.args in
     let s = a.name.now in

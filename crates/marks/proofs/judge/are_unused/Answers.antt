@@ -22,7 +22,7 @@ bounds-t-i c = omega arith
 pub returns-then-not-is_unused : goal.returns-then-not-is_unused
 returns-then-not-is_unused c = let t = c.args.t in
     let h : length t.held ≡ 32 = c.well_formed.0.1.1.0.1.0.1 in
-    sym (c.loop-i.invariant.2 ∙ all-stop (same_mark unused) t.held c.loop-i.i past (omega arith) (sym c.is_unused.ensures ∙ not-true c.is_unused.result c.if-not-is_unused.true-raw))
+    sym (c.loop-i.invariant.2 ∙ all-stop (same_mark unused) t.held c.loop-i.i past (omega arith) (sym c.is_unused.ensures ∙ c.if-not-is_unused.true))
 
 pub overflow_add-i : goal.overflow_add-i
 overflow_add-i c = omega arith
@@ -33,7 +33,7 @@ loop-i-smaller c = omega arith
 pub loop-i-preserved : goal.loop-i-preserved
 loop-i-preserved c = let t = c.args.t in
     let h : length t.held ≡ 32 = c.well_formed.0.1.1.0.1.0.1 in
-    (omega arith, omega arith, c.loop-i.invariant.2 ∙ all-next (same_mark unused) t.held c.loop-i.i past (omega arith) (sym c.is_unused.ensures ∙ not-false c.is_unused.result c.if-not-is_unused.false-raw))
+    (omega arith, omega arith, c.loop-i.invariant.2 ∙ all-next (same_mark unused) t.held c.loop-i.i past (omega arith) (sym c.is_unused.ensures ∙ c.if-not-is_unused.false))
 
 pub returns : goal.returns
 returns c = let t = c.args.t in

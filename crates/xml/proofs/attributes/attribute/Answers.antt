@@ -36,5 +36,5 @@ returns-then-not-is_new c = λ used h. c.first_wrong.ensures used h ∙ ap (λ (
 pub returns : goal.returns
 returns c = let S = drop (c.args.at + 1) c.args.src.now in
     λ used h.
-    c.after_name.ensures used (ap (is_new used) (sym (part_same S (c.args.at + 1) c.name_len-m.result)) ∙ sym (c.is_new.ensures used h) ∙ not-false _ c.if-not-is_new.false-raw)
+    c.after_name.ensures used (ap (is_new used) (sym (part_same S (c.args.at + 1) c.name_len-m.result)) ∙ sym (c.is_new.ensures used h) ∙ c.if-not-is_new.false)
     ∙ ap (λ (b : ℕ). attr_named used b S) (sym c.if-src-at-ne32.false)

@@ -31,9 +31,9 @@ returns-then-b-eq60 c = let b = get_or c.args.src.now c.args.at 0 in
 
 pub returns-then-not-is_printed : goal.returns-then-not-is_printed
 returns-then-not-is_printed c = let b = get_or c.args.src.now c.args.at 0 in
-    sym (value-off c.args.q b (drop (c.args.at + 1) c.args.src.now) c.if-b-q.false c.if-b-eq38.false (in-other c.args.q b (sym c.is_printed.ensures ∙ not-true _ c.if-not-is_printed.true-raw)))
+    sym (value-off c.args.q b (drop (c.args.at + 1) c.args.src.now) c.if-b-q.false c.if-b-eq38.false (in-other c.args.q b (sym c.is_printed.ensures ∙ c.if-not-is_printed.true)))
 
 pub returns : goal.returns
 returns c = let b = get_or c.args.src.now c.args.at 0 in
     sym (value-kept c.args.q b (drop (c.args.at + 1) c.args.src.now) c.if-b-q.false c.if-b-eq38.false
-    (in-plain c.args.q b (sym c.is_printed.ensures ∙ not-false _ c.if-not-is_printed.false-raw) c.if-b-eq60.false c.if-b-eq38.false c.if-b-q.false))
+    (in-plain c.args.q b (sym c.is_printed.ensures ∙ c.if-not-is_printed.false) c.if-b-eq60.false c.if-b-eq38.false c.if-b-q.false))

@@ -36,7 +36,7 @@ returns-then-not-is_name_byte c = let src = c.args.src.now in
     let n = c.loop-n.n in
     let k = c.is_name_byte in
     let h : at + n < length src = omega (arith, c.least-count.ensures) in
-    omega (arith, name_rest-stop src (at + n) (31 - n) h (sym k.ensures ∙ not-true k.result c.if-not-is_name_byte.true-raw))
+    omega (arith, name_rest-stop src (at + n) (31 - n) h (sym k.ensures ∙ c.if-not-is_name_byte.true))
 
 pub overflow_add-n : goal.overflow_add-n
 overflow_add-n c = omega arith

@@ -25,7 +25,7 @@ pub loop-j-smaller : goal.loop-j-smaller
 loop-j-smaller c = omega arith
 
 pub loop-j-preserved : goal.loop-j-preserved
-loop-j-preserved c = passed-more c.loop-j.invariant (sym c.is_plain.ensures ∙ not-false c.is_plain.result c.if-not-is_plain.false-raw) (omega arith)
+loop-j-preserved c = passed-more c.loop-j.invariant (sym c.is_plain.ensures ∙ c.if-not-is_plain.false) (omega arith)
 
 pub returns : goal.returns
 returns c = c.loop-j.invariant

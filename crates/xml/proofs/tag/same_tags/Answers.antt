@@ -37,9 +37,9 @@ same_bytes-requires-2 c = record {
 pub returns-then-not-same_bytes : goal.returns-then-not-same_bytes
 returns-then-not-same_bytes c =
     let names : same (name_of c.args.s1.now) (name_of c.args.s2.now) ≡ c.same_bytes-2.result = sym (c.same_bytes-2.ensures ∙ ap₂ same (name-part c.args.s1.now c.name_end.result c.name_end.ensures) (name-part c.args.s2.now c.name_end-2.result c.name_end-2.ensures)) in
-    sym (tags-named c.requires.0 c.requires.2 (names ∙ not-true _ c.if-not-same_bytes.true-raw))
+    sym (tags-named c.requires.0 c.requires.2 (names ∙ c.if-not-same_bytes.true))
 
 pub returns : goal.returns
 returns c =
     let names : same (name_of c.args.s1.now) (name_of c.args.s2.now) ≡ c.same_bytes-2.result = sym (c.same_bytes-2.ensures ∙ ap₂ same (name-part c.args.s1.now c.name_end.result c.name_end.ensures) (name-part c.args.s2.now c.name_end-2.result c.name_end-2.ensures)) in
-    c.same_attrs.ensures ∙ sym (tags-same c.requires.0 c.requires.2 (names ∙ not-false _ c.if-not-same_bytes.false-raw))
+    c.same_attrs.ensures ∙ sym (tags-same c.requires.0 c.requires.2 (names ∙ c.if-not-same_bytes.false))

@@ -1,0 +1,13 @@
+-- `add_version` meets its contract.
+use native.Mathlib.Omega.{arith}
+use lib.ListN.{length}
+use Rattle.archive.specs.Giving.{ends-1, ends}
+use Rattle.archive.specs.AddCall.{add-from}
+use borrow.Author.Rules.{rules}
+use Rattle.archive.proofs.add.add_version.Goals as goal
+
+pub returns-then-work-lt16384 : goal.returns-then-work-lt16384
+returns-then-work-lt16384 c = ends-1 _ _ c.args.out.now c.args.work.now (add-from _ _ _ _ _) c.if-work-lt16384.true
+
+pub returns : goal.returns
+returns c = ends _ _ c.args.out.now c.args.work.now (add-from _ _ _ _ _) c.if-work-lt16384.false c.add_in-answer.ensures (length c.add_in-answer.new.work) (omega (arith, c.add_in-answer.auto)) c.clear.ensures

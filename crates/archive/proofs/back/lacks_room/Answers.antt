@@ -1,0 +1,19 @@
+-- `lacks_room` meets its contract: a step back adds no byte, and what `back` answers of an empty output is the length.
+use native.Mathlib.Omega.{arith}
+use mathlib.Core.Path.{sym, ap}
+use lib.Dec.{ltb}
+use lib.ListN.{length}
+use borrow.Author.Tests.{le-ltb}
+use Rattle.xml.specs.OverLaws.{wrote-over}
+use Rattle.archive.specs.BackCall.{earlier_text, back-asks, back-short}
+use borrow.Author.Rules.{rules}
+use Rattle.archive.proofs.back.lacks_room.Goals as goal
+
+pub returns-then-src-size : goal.returns-then-src-size
+returns-then-src-size c = λ f h. let a = c.args in sym (le-ltb a.size (length (earlier_text a.i f)) (omega (arith, back-short c.requires f h, c.if-src-size.true)))
+
+pub back-count-requires : goal.back-count-requires
+back-count-requires c = back-asks c.requires
+
+pub returns : goal.returns
+returns c = λ f h. ap (ltb c.args.size) (wrote-over (c.back-count.ensures f h)).0

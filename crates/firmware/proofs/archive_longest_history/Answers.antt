@@ -1,0 +1,8 @@
+-- `archive_longest_history` meets its contract.
+use Rattle.archive.specs.Giving.{gives-told}
+use Rattle.archive.specs.LongestCall.{longest-from, longest-told}
+use borrow.Author.Rules.{rules}
+use Rattle.firmware.proofs.archive_longest_history.Goals as goal
+
+pub returns : goal.returns
+returns c = longest-told (gives-told _ _ c.args.out.now (longest-from _ _ _) c.longest_in-answer.ensures)
