@@ -5,9 +5,7 @@ use mathlib.Core.Path.{◌≡◌, refl, sym, ◌∙◌, ap}
 use mathlib.Core.Bool.{true}
 use mathlib.Core.Option.{Option}
 use lib.ListN.{length}
-use borrow.Author.Rules.{rules}
 use borrow.Rule.Slice.PartMut.{put_mid}
-use borrow.Author.Tests.{not-true, not-false}
 use Rattle.xml.specs.Bytes.{Bytes}
 use Rattle.xml.specs.Forest.{Forest}
 use Rattle.xml.specs.OverLaws.{length_at, lent_back}
@@ -23,7 +21,7 @@ use Rattle.adding.specs.Growth.{Grew, grew-lent}
 use Rattle.versions.specs.TimedLaws.{says-set}
 use Rattle.versions.specs.AddWalk.{Held, Both, at_front, at_forward, at_place}
 use Rattle.adding.specs.AddWay.{Way, way-none, way-old, way-new, way-both, way-done, next_of, other_of, order_at, order-at, order_same, there, both_of, both-grew, inside-above, inside-front, room-more, room-inner, room-outer, inner-held, opening-short, closing-short}
-use Prim.Native.Nat.{ℕ, ◌+◌, ◌*◌, ◌-◌, ◌<◌, ◌≤◌}
+use Prim.Native.Nat.{◌+◌, ◌*◌, ◌-◌, ◌<◌, ◌≤◌}
 use Rattle.adding.proofs.add.+write_added_write_both.Goals as goal
 
 pub write_added-is_above-requires : goal.write_added-is_above-requires
@@ -43,7 +41,7 @@ write_added-loop-p-init t c = (omega arith, omega arith, omega arith, omega arit
 
 pub write_added-own_place-own-requires : goal.write_added-own_place-own-requires
 write_added-own_place-own-requires t c =
-    let above-is : (K : KeyList) (w : Path) → Table c.args.text.now c.args.table.now c.args.paths K → place_of K w ≡ c.args.place → above K w ≡ true = λ K w a b. sym (c.is_above.ensures c.args.text.now K w a b) ∙ not-false _ c.if-not-is_above.false-raw in
+    let above-is : (K : KeyList) (w : Path) → Table c.args.text.now c.args.table.now c.args.paths K → place_of K w ≡ c.args.place → above K w ≡ true = λ K w a b. sym (c.is_above.ensures c.args.text.now K w a b) ∙ c.if-not-is_above.false in
     let way : Way c.args.src.now c.args.tape.now c.loop-p.p c.args.hi c.args.vsrc.now c.args.vtape.now c.loop-p.q c.args.vhi c.args.n c.requires.0.key_list c.requires.0.path c.requires.0.times (add_in c.requires.0.key_list c.args.n c.requires.0.path c.requires.0.times c.requires.0.forest c.requires.0.other) c.requires.0.forest c.args.out.now c.args.at c.loop-p.to c.loop-p.out c.loop-p.fresh = let h = c.requires.0 in c.loop-p.invariant.5 h.key_list h.path h.times h.forest h.other h.held (above-is h.key_list h.path h.held.tabled h.held.place_is) in
     let x = way in
     let s = next_of x c.loop-p-test.true in
@@ -55,7 +53,7 @@ write_added-own_place-own-requires t c =
 
 pub write_added-order_of-order-requires : goal.write_added-order_of-order-requires
 write_added-order_of-order-requires t c =
-    let above-is : (K : KeyList) (w : Path) → Table c.args.text.now c.args.table.now c.args.paths K → place_of K w ≡ c.args.place → above K w ≡ true = λ K w a b. sym (c.is_above.ensures c.args.text.now K w a b) ∙ not-false _ c.if-not-is_above.false-raw in
+    let above-is : (K : KeyList) (w : Path) → Table c.args.text.now c.args.table.now c.args.paths K → place_of K w ≡ c.args.place → above K w ≡ true = λ K w a b. sym (c.is_above.ensures c.args.text.now K w a b) ∙ c.if-not-is_above.false in
     let way : Way c.args.src.now c.args.tape.now c.loop-p.p c.args.hi c.args.vsrc.now c.args.vtape.now c.loop-p.q c.args.vhi c.args.n c.requires.0.key_list c.requires.0.path c.requires.0.times (add_in c.requires.0.key_list c.args.n c.requires.0.path c.requires.0.times c.requires.0.forest c.requires.0.other) c.requires.0.forest c.args.out.now c.args.at c.loop-p.to c.loop-p.out c.loop-p.fresh = let h = c.requires.0 in c.loop-p.invariant.5 h.key_list h.path h.times h.forest h.other h.held (above-is h.key_list h.path h.held.tabled h.held.place_is) in
     let x = way in
     let s = next_of x c.loop-p-test.true in
@@ -64,7 +62,7 @@ write_added-order_of-order-requires t c =
 
 pub write_added-view_at-w-requires : goal.write_added-view_at-w-requires
 write_added-view_at-w-requires t c =
-    let above-is : (K : KeyList) (w : Path) → Table c.args.text.now c.args.table.now c.args.paths K → place_of K w ≡ c.args.place → above K w ≡ true = λ K w a b. sym (c.is_above.ensures c.args.text.now K w a b) ∙ not-false _ c.if-not-is_above.false-raw in
+    let above-is : (K : KeyList) (w : Path) → Table c.args.text.now c.args.table.now c.args.paths K → place_of K w ≡ c.args.place → above K w ≡ true = λ K w a b. sym (c.is_above.ensures c.args.text.now K w a b) ∙ c.if-not-is_above.false in
     let way : Way c.args.src.now c.args.tape.now c.loop-p.p c.args.hi c.args.vsrc.now c.args.vtape.now c.loop-p.q c.args.vhi c.args.n c.requires.0.key_list c.requires.0.path c.requires.0.times (add_in c.requires.0.key_list c.args.n c.requires.0.path c.requires.0.times c.requires.0.forest c.requires.0.other) c.requires.0.forest c.args.out.now c.args.at c.loop-p.to c.loop-p.out c.loop-p.fresh = let h = c.requires.0 in c.loop-p.invariant.5 h.key_list h.path h.times h.forest h.other h.held (above-is h.key_list h.path h.held.tabled h.held.place_is) in
     let newer : c.loop-p.q < c.args.vhi = let x = way in let h = c.requires.0 in there x c.loop-p-test.true (λ z. omega (arith, sym (order-at x c.loop-p-test.true (c.own_place-own.ensures h.key_list h.path h.held.tabled h.held.place_is) (c.order_of-order.ensures h.key_list h.path h.held.tabled)) ∙ z, c.if-order-eq2.true)) in
     (front way.vtape newer).held
@@ -77,7 +75,7 @@ write_added-slice_bounds-put_newest-start t c = omega (arith, c.least-from.ensur
 
 pub write_added-put_newest-to-requires : goal.write_added-put_newest-to-requires
 write_added-put_newest-to-requires t c =
-    let above-is : (K : KeyList) (w : Path) → Table c.args.text.now c.args.table.now c.args.paths K → place_of K w ≡ c.args.place → above K w ≡ true = λ K w a b. sym (c.is_above.ensures c.args.text.now K w a b) ∙ not-false _ c.if-not-is_above.false-raw in
+    let above-is : (K : KeyList) (w : Path) → Table c.args.text.now c.args.table.now c.args.paths K → place_of K w ≡ c.args.place → above K w ≡ true = λ K w a b. sym (c.is_above.ensures c.args.text.now K w a b) ∙ c.if-not-is_above.false in
     let way : Way c.args.src.now c.args.tape.now c.loop-p.p c.args.hi c.args.vsrc.now c.args.vtape.now c.loop-p.q c.args.vhi c.args.n c.requires.0.key_list c.requires.0.path c.requires.0.times (add_in c.requires.0.key_list c.args.n c.requires.0.path c.requires.0.times c.requires.0.forest c.requires.0.other) c.requires.0.forest c.args.out.now c.args.at c.loop-p.to c.loop-p.out c.loop-p.fresh = let h = c.requires.0 in c.loop-p.invariant.5 h.key_list h.path h.times h.forest h.other h.held (above-is h.key_list h.path h.held.tabled h.held.place_is) in
     let newer : c.loop-p.q < c.args.vhi = let x = way in let h = c.requires.0 in there x c.loop-p-test.true (λ z. omega (arith, sym (order-at x c.loop-p-test.true (c.own_place-own.ensures h.key_list h.path h.held.tabled h.held.place_is) (c.order_of-order.ensures h.key_list h.path h.held.tabled)) ∙ z, c.if-order-eq2.true)) in
     let x = way in
@@ -87,7 +85,7 @@ write_added-put_newest-to-requires t c =
 
 pub write_added-overflow_add-to : goal.write_added-overflow_add-to
 write_added-overflow_add-to t c =
-    let above-is : (K : KeyList) (w : Path) → Table c.args.text.now c.args.table.now c.args.paths K → place_of K w ≡ c.args.place → above K w ≡ true = λ K w a b. sym (c.is_above.ensures c.args.text.now K w a b) ∙ not-false _ c.if-not-is_above.false-raw in
+    let above-is : (K : KeyList) (w : Path) → Table c.args.text.now c.args.table.now c.args.paths K → place_of K w ≡ c.args.place → above K w ≡ true = λ K w a b. sym (c.is_above.ensures c.args.text.now K w a b) ∙ c.if-not-is_above.false in
     let way : Way c.args.src.now c.args.tape.now c.loop-p.p c.args.hi c.args.vsrc.now c.args.vtape.now c.loop-p.q c.args.vhi c.args.n c.requires.0.key_list c.requires.0.path c.requires.0.times (add_in c.requires.0.key_list c.args.n c.requires.0.path c.requires.0.times c.requires.0.forest c.requires.0.other) c.requires.0.forest c.args.out.now c.args.at c.loop-p.to c.loop-p.out c.loop-p.fresh = let h = c.requires.0 in c.loop-p.invariant.5 h.key_list h.path h.times h.forest h.other h.held (above-is h.key_list h.path h.held.tabled h.held.place_is) in
     let newer : c.loop-p.q < c.args.vhi = let x = way in let h = c.requires.0 in there x c.loop-p-test.true (λ z. omega (arith, sym (order-at x c.loop-p-test.true (c.own_place-own.ensures h.key_list h.path h.held.tabled h.held.place_is) (c.order_of-order.ensures h.key_list h.path h.held.tabled)) ∙ z, c.if-order-eq2.true)) in
     let g = front way.vtape newer in
@@ -95,21 +93,21 @@ write_added-overflow_add-to t c =
 
 pub write_added-overflow_sub-fresh : goal.write_added-overflow_sub-fresh
 write_added-overflow_sub-fresh t c =
-    let above-is : (K : KeyList) (w : Path) → Table c.args.text.now c.args.table.now c.args.paths K → place_of K w ≡ c.args.place → above K w ≡ true = λ K w a b. sym (c.is_above.ensures c.args.text.now K w a b) ∙ not-false _ c.if-not-is_above.false-raw in
+    let above-is : (K : KeyList) (w : Path) → Table c.args.text.now c.args.table.now c.args.paths K → place_of K w ≡ c.args.place → above K w ≡ true = λ K w a b. sym (c.is_above.ensures c.args.text.now K w a b) ∙ c.if-not-is_above.false in
     let way : Way c.args.src.now c.args.tape.now c.loop-p.p c.args.hi c.args.vsrc.now c.args.vtape.now c.loop-p.q c.args.vhi c.args.n c.requires.0.key_list c.requires.0.path c.requires.0.times (add_in c.requires.0.key_list c.args.n c.requires.0.path c.requires.0.times c.requires.0.forest c.requires.0.other) c.requires.0.forest c.args.out.now c.args.at c.loop-p.to c.loop-p.out c.loop-p.fresh = let h = c.requires.0 in c.loop-p.invariant.5 h.key_list h.path h.times h.forest h.other h.held (above-is h.key_list h.path h.held.tabled h.held.place_is) in
     let newer : c.loop-p.q < c.args.vhi = let x = way in let h = c.requires.0 in there x c.loop-p-test.true (λ z. omega (arith, sym (order-at x c.loop-p-test.true (c.own_place-own.ensures h.key_list h.path h.held.tabled h.held.place_is) (c.order_of-order.ensures h.key_list h.path h.held.tabled)) ∙ z, c.if-order-eq2.true)) in
     rw c.view_at-w.ensures (omega (arith, (front way.vtape newer).forward))
 
 pub write_added-overflow_add-fresh : goal.write_added-overflow_add-fresh
 write_added-overflow_add-fresh t c =
-    let above-is : (K : KeyList) (w : Path) → Table c.args.text.now c.args.table.now c.args.paths K → place_of K w ≡ c.args.place → above K w ≡ true = λ K w a b. sym (c.is_above.ensures c.args.text.now K w a b) ∙ not-false _ c.if-not-is_above.false-raw in
+    let above-is : (K : KeyList) (w : Path) → Table c.args.text.now c.args.table.now c.args.paths K → place_of K w ≡ c.args.place → above K w ≡ true = λ K w a b. sym (c.is_above.ensures c.args.text.now K w a b) ∙ c.if-not-is_above.false in
     let way : Way c.args.src.now c.args.tape.now c.loop-p.p c.args.hi c.args.vsrc.now c.args.vtape.now c.loop-p.q c.args.vhi c.args.n c.requires.0.key_list c.requires.0.path c.requires.0.times (add_in c.requires.0.key_list c.args.n c.requires.0.path c.requires.0.times c.requires.0.forest c.requires.0.other) c.requires.0.forest c.args.out.now c.args.at c.loop-p.to c.loop-p.out c.loop-p.fresh = let h = c.requires.0 in c.loop-p.invariant.5 h.key_list h.path h.times h.forest h.other h.held (above-is h.key_list h.path h.held.tabled h.held.place_is) in
     let newer : c.loop-p.q < c.args.vhi = let x = way in let h = c.requires.0 in there x c.loop-p-test.true (λ z. omega (arith, sym (order-at x c.loop-p-test.true (c.own_place-own.ensures h.key_list h.path h.held.tabled h.held.place_is) (c.order_of-order.ensures h.key_list h.path h.held.tabled)) ∙ z, c.if-order-eq2.true)) in
     rw c.view_at-w.ensures (omega (arith, (front way.vtape newer).inside, c.loop-p.invariant.3, c.requires.3))
 
 pub write_added-loop-p-smaller-then-order-eq2 : goal.write_added-loop-p-smaller-then-order-eq2
 write_added-loop-p-smaller-then-order-eq2 t c =
-    let above-is : (K : KeyList) (w : Path) → Table c.args.text.now c.args.table.now c.args.paths K → place_of K w ≡ c.args.place → above K w ≡ true = λ K w a b. sym (c.is_above.ensures c.args.text.now K w a b) ∙ not-false _ c.if-not-is_above.false-raw in
+    let above-is : (K : KeyList) (w : Path) → Table c.args.text.now c.args.table.now c.args.paths K → place_of K w ≡ c.args.place → above K w ≡ true = λ K w a b. sym (c.is_above.ensures c.args.text.now K w a b) ∙ c.if-not-is_above.false in
     let way : Way c.args.src.now c.args.tape.now c.loop-p.p c.args.hi c.args.vsrc.now c.args.vtape.now c.loop-p.q c.args.vhi c.args.n c.requires.0.key_list c.requires.0.path c.requires.0.times (add_in c.requires.0.key_list c.args.n c.requires.0.path c.requires.0.times c.requires.0.forest c.requires.0.other) c.requires.0.forest c.args.out.now c.args.at c.loop-p.to c.loop-p.out c.loop-p.fresh = let h = c.requires.0 in c.loop-p.invariant.5 h.key_list h.path h.times h.forest h.other h.held (above-is h.key_list h.path h.held.tabled h.held.place_is) in
     let newer : c.loop-p.q < c.args.vhi = let x = way in let h = c.requires.0 in there x c.loop-p-test.true (λ z. omega (arith, sym (order-at x c.loop-p-test.true (c.own_place-own.ensures h.key_list h.path h.held.tabled h.held.place_is) (c.order_of-order.ensures h.key_list h.path h.held.tabled)) ∙ z, c.if-order-eq2.true)) in
     let g = front way.vtape newer in
@@ -117,7 +115,7 @@ write_added-loop-p-smaller-then-order-eq2 t c =
 
 pub write_added-loop-p-preserved-then-order-eq2 : goal.write_added-loop-p-preserved-then-order-eq2
 write_added-loop-p-preserved-then-order-eq2 t c =
-    let above-is : (K : KeyList) (w : Path) → Table c.args.text.now c.args.table.now c.args.paths K → place_of K w ≡ c.args.place → above K w ≡ true = λ K w a b. sym (c.is_above.ensures c.args.text.now K w a b) ∙ not-false _ c.if-not-is_above.false-raw in
+    let above-is : (K : KeyList) (w : Path) → Table c.args.text.now c.args.table.now c.args.paths K → place_of K w ≡ c.args.place → above K w ≡ true = λ K w a b. sym (c.is_above.ensures c.args.text.now K w a b) ∙ c.if-not-is_above.false in
     let way : Way c.args.src.now c.args.tape.now c.loop-p.p c.args.hi c.args.vsrc.now c.args.vtape.now c.loop-p.q c.args.vhi c.args.n c.requires.0.key_list c.requires.0.path c.requires.0.times (add_in c.requires.0.key_list c.args.n c.requires.0.path c.requires.0.times c.requires.0.forest c.requires.0.other) c.requires.0.forest c.args.out.now c.args.at c.loop-p.to c.loop-p.out c.loop-p.fresh = let h = c.requires.0 in c.loop-p.invariant.5 h.key_list h.path h.times h.forest h.other h.held (above-is h.key_list h.path h.held.tabled h.held.place_is) in
     let newer : c.loop-p.q < c.args.vhi = let x = way in let h = c.requires.0 in there x c.loop-p-test.true (λ z. omega (arith, sym (order-at x c.loop-p-test.true (c.own_place-own.ensures h.key_list h.path h.held.tabled h.held.place_is) (c.order_of-order.ensures h.key_list h.path h.held.tabled)) ∙ z, c.if-order-eq2.true)) in
     let e = c.view_at-w.ensures in
@@ -143,7 +141,7 @@ write_added-slice_bounds-write_old-start t c = omega (arith, c.least-from.ensure
 
 pub write_added-write_old-to-requires : goal.write_added-write_old-to-requires
 write_added-write_old-to-requires t c =
-    let above-is : (K : KeyList) (w : Path) → Table c.args.text.now c.args.table.now c.args.paths K → place_of K w ≡ c.args.place → above K w ≡ true = λ K w a b. sym (c.is_above.ensures c.args.text.now K w a b) ∙ not-false _ c.if-not-is_above.false-raw in
+    let above-is : (K : KeyList) (w : Path) → Table c.args.text.now c.args.table.now c.args.paths K → place_of K w ≡ c.args.place → above K w ≡ true = λ K w a b. sym (c.is_above.ensures c.args.text.now K w a b) ∙ c.if-not-is_above.false in
     let way : Way c.args.src.now c.args.tape.now c.loop-p.p c.args.hi c.args.vsrc.now c.args.vtape.now c.loop-p.q c.args.vhi c.args.n c.requires.0.key_list c.requires.0.path c.requires.0.times (add_in c.requires.0.key_list c.args.n c.requires.0.path c.requires.0.times c.requires.0.forest c.requires.0.other) c.requires.0.forest c.args.out.now c.args.at c.loop-p.to c.loop-p.out c.loop-p.fresh = let h = c.requires.0 in c.loop-p.invariant.5 h.key_list h.path h.times h.forest h.other h.held (above-is h.key_list h.path h.held.tabled h.held.place_is) in
     let x = way in
     let l = c.loop-p-test.true in
@@ -154,27 +152,27 @@ write_added-write_old-to-requires t c =
 
 pub write_added-overflow_add-to-then-order-eq0 : goal.write_added-overflow_add-to-then-order-eq0
 write_added-overflow_add-to-then-order-eq0 t c =
-    let above-is : (K : KeyList) (w : Path) → Table c.args.text.now c.args.table.now c.args.paths K → place_of K w ≡ c.args.place → above K w ≡ true = λ K w a b. sym (c.is_above.ensures c.args.text.now K w a b) ∙ not-false _ c.if-not-is_above.false-raw in
+    let above-is : (K : KeyList) (w : Path) → Table c.args.text.now c.args.table.now c.args.paths K → place_of K w ≡ c.args.place → above K w ≡ true = λ K w a b. sym (c.is_above.ensures c.args.text.now K w a b) ∙ c.if-not-is_above.false in
     let way : Way c.args.src.now c.args.tape.now c.loop-p.p c.args.hi c.args.vsrc.now c.args.vtape.now c.loop-p.q c.args.vhi c.args.n c.requires.0.key_list c.requires.0.path c.requires.0.times (add_in c.requires.0.key_list c.args.n c.requires.0.path c.requires.0.times c.requires.0.forest c.requires.0.other) c.requires.0.forest c.args.out.now c.args.at c.loop-p.to c.loop-p.out c.loop-p.fresh = let h = c.requires.0 in c.loop-p.invariant.5 h.key_list h.path h.times h.forest h.other h.held (above-is h.key_list h.path h.held.tabled h.held.place_is) in
     let g = front way.tape c.loop-p-test.true in
     omega (arith, c.loop-p.invariant.2, c.requires.4, g.forward, g.inside, c.write_old-to.ensures.1)
 
 pub write_added-view_at-v-requires : goal.write_added-view_at-v-requires
 write_added-view_at-v-requires t c =
-    let above-is : (K : KeyList) (w : Path) → Table c.args.text.now c.args.table.now c.args.paths K → place_of K w ≡ c.args.place → above K w ≡ true = λ K w a b. sym (c.is_above.ensures c.args.text.now K w a b) ∙ not-false _ c.if-not-is_above.false-raw in
+    let above-is : (K : KeyList) (w : Path) → Table c.args.text.now c.args.table.now c.args.paths K → place_of K w ≡ c.args.place → above K w ≡ true = λ K w a b. sym (c.is_above.ensures c.args.text.now K w a b) ∙ c.if-not-is_above.false in
     let way : Way c.args.src.now c.args.tape.now c.loop-p.p c.args.hi c.args.vsrc.now c.args.vtape.now c.loop-p.q c.args.vhi c.args.n c.requires.0.key_list c.requires.0.path c.requires.0.times (add_in c.requires.0.key_list c.args.n c.requires.0.path c.requires.0.times c.requires.0.forest c.requires.0.other) c.requires.0.forest c.args.out.now c.args.at c.loop-p.to c.loop-p.out c.loop-p.fresh = let h = c.requires.0 in c.loop-p.invariant.5 h.key_list h.path h.times h.forest h.other h.held (above-is h.key_list h.path h.held.tabled h.held.place_is) in
     (front way.tape c.loop-p-test.true).held
 
 pub write_added-loop-p-smaller-then-order-eq0 : goal.write_added-loop-p-smaller-then-order-eq0
 write_added-loop-p-smaller-then-order-eq0 t c =
-    let above-is : (K : KeyList) (w : Path) → Table c.args.text.now c.args.table.now c.args.paths K → place_of K w ≡ c.args.place → above K w ≡ true = λ K w a b. sym (c.is_above.ensures c.args.text.now K w a b) ∙ not-false _ c.if-not-is_above.false-raw in
+    let above-is : (K : KeyList) (w : Path) → Table c.args.text.now c.args.table.now c.args.paths K → place_of K w ≡ c.args.place → above K w ≡ true = λ K w a b. sym (c.is_above.ensures c.args.text.now K w a b) ∙ c.if-not-is_above.false in
     let way : Way c.args.src.now c.args.tape.now c.loop-p.p c.args.hi c.args.vsrc.now c.args.vtape.now c.loop-p.q c.args.vhi c.args.n c.requires.0.key_list c.requires.0.path c.requires.0.times (add_in c.requires.0.key_list c.args.n c.requires.0.path c.requires.0.times c.requires.0.forest c.requires.0.other) c.requires.0.forest c.args.out.now c.args.at c.loop-p.to c.loop-p.out c.loop-p.fresh = let h = c.requires.0 in c.loop-p.invariant.5 h.key_list h.path h.times h.forest h.other h.held (above-is h.key_list h.path h.held.tabled h.held.place_is) in
     let g = front way.tape c.loop-p-test.true in
     rw c.view_at-v.ensures (omega (arith, g.forward, g.inside))
 
 pub write_added-loop-p-preserved-then-order-eq0 : goal.write_added-loop-p-preserved-then-order-eq0
 write_added-loop-p-preserved-then-order-eq0 t c =
-    let above-is : (K : KeyList) (w : Path) → Table c.args.text.now c.args.table.now c.args.paths K → place_of K w ≡ c.args.place → above K w ≡ true = λ K w a b. sym (c.is_above.ensures c.args.text.now K w a b) ∙ not-false _ c.if-not-is_above.false-raw in
+    let above-is : (K : KeyList) (w : Path) → Table c.args.text.now c.args.table.now c.args.paths K → place_of K w ≡ c.args.place → above K w ≡ true = λ K w a b. sym (c.is_above.ensures c.args.text.now K w a b) ∙ c.if-not-is_above.false in
     let way : Way c.args.src.now c.args.tape.now c.loop-p.p c.args.hi c.args.vsrc.now c.args.vtape.now c.loop-p.q c.args.vhi c.args.n c.requires.0.key_list c.requires.0.path c.requires.0.times (add_in c.requires.0.key_list c.args.n c.requires.0.path c.requires.0.times c.requires.0.forest c.requires.0.other) c.requires.0.forest c.args.out.now c.args.at c.loop-p.to c.loop-p.out c.loop-p.fresh = let h = c.requires.0 in c.loop-p.invariant.5 h.key_list h.path h.times h.forest h.other h.held (above-is h.key_list h.path h.held.tabled h.held.place_is) in
     let e = c.view_at-v.ensures in
     let l = c.loop-p-test.true in
@@ -202,7 +200,7 @@ write_added-slice_bounds-write_both-start t c = omega (arith, c.least-from.ensur
 pub write_added-write_both-x-requires : goal.write_added-write_both-x-requires
 write_added-write_both-x-requires t c =
     let equal : (K : KeyList) (w : Path) (u : Times) (whole first : Forest) (x : Way c.args.src.now c.args.tape.now c.loop-p.p c.args.hi c.args.vsrc.now c.args.vtape.now c.loop-p.q c.args.vhi c.args.n K w u whole first c.args.out.now c.args.at c.loop-p.to c.loop-p.out c.loop-p.fresh) → Table c.args.text.now c.args.table.now c.args.paths K → place_of K w ≡ c.args.place → order_at x c.loop-p-test.true ≡ 1 = λ K w u whole first x a b. let l = c.loop-p-test.true in let o = sym (order-at x l (c.own_place-own.ensures K w a b) (c.order_of-order.ensures K w a)) in order_same (label K w (next_of x l).name (next_of x l).kids) (first_label K w x.other) (λ z. c.if-order-eq2.false (o ∙ z)) (λ z. c.if-order-eq0.false (o ∙ z)) in
-    let above-is : (K : KeyList) (w : Path) → Table c.args.text.now c.args.table.now c.args.paths K → place_of K w ≡ c.args.place → above K w ≡ true = λ K w a b. sym (c.is_above.ensures c.args.text.now K w a b) ∙ not-false _ c.if-not-is_above.false-raw in
+    let above-is : (K : KeyList) (w : Path) → Table c.args.text.now c.args.table.now c.args.paths K → place_of K w ≡ c.args.place → above K w ≡ true = λ K w a b. sym (c.is_above.ensures c.args.text.now K w a b) ∙ c.if-not-is_above.false in
     let way : Way c.args.src.now c.args.tape.now c.loop-p.p c.args.hi c.args.vsrc.now c.args.vtape.now c.loop-p.q c.args.vhi c.args.n c.requires.0.key_list c.requires.0.path c.requires.0.times (add_in c.requires.0.key_list c.args.n c.requires.0.path c.requires.0.times c.requires.0.forest c.requires.0.other) c.requires.0.forest c.args.out.now c.args.at c.loop-p.to c.loop-p.out c.loop-p.fresh = let h = c.requires.0 in c.loop-p.invariant.5 h.key_list h.path h.times h.forest h.other h.held (above-is h.key_list h.path h.held.tabled h.held.place_is) in
     let matched : c.loop-p.q < c.args.vhi = let x = way in let h = c.requires.0.held in let e = equal _ _ _ _ _ x h.tabled h.place_is in there x c.loop-p-test.true (λ z. omega (arith, e, z)) in
     let x = way in
@@ -232,14 +230,14 @@ write_added-write_both-x-requires t c =
 
 pub write_added-view_at-v-requires-else-order-eq0 : goal.write_added-view_at-v-requires-else-order-eq0
 write_added-view_at-v-requires-else-order-eq0 t c =
-    let above-is : (K : KeyList) (w : Path) → Table c.args.text.now c.args.table.now c.args.paths K → place_of K w ≡ c.args.place → above K w ≡ true = λ K w a b. sym (c.is_above.ensures c.args.text.now K w a b) ∙ not-false _ c.if-not-is_above.false-raw in
+    let above-is : (K : KeyList) (w : Path) → Table c.args.text.now c.args.table.now c.args.paths K → place_of K w ≡ c.args.place → above K w ≡ true = λ K w a b. sym (c.is_above.ensures c.args.text.now K w a b) ∙ c.if-not-is_above.false in
     let way : Way c.args.src.now c.args.tape.now c.loop-p.p c.args.hi c.args.vsrc.now c.args.vtape.now c.loop-p.q c.args.vhi c.args.n c.requires.0.key_list c.requires.0.path c.requires.0.times (add_in c.requires.0.key_list c.args.n c.requires.0.path c.requires.0.times c.requires.0.forest c.requires.0.other) c.requires.0.forest c.args.out.now c.args.at c.loop-p.to c.loop-p.out c.loop-p.fresh = let h = c.requires.0 in c.loop-p.invariant.5 h.key_list h.path h.times h.forest h.other h.held (above-is h.key_list h.path h.held.tabled h.held.place_is) in
     (front way.tape c.loop-p-test.true).held
 
 pub write_added-view_at-w-requires-else-order-eq0 : goal.write_added-view_at-w-requires-else-order-eq0
 write_added-view_at-w-requires-else-order-eq0 t c =
     let equal : (K : KeyList) (w : Path) (u : Times) (whole first : Forest) (x : Way c.args.src.now c.args.tape.now c.loop-p.p c.args.hi c.args.vsrc.now c.args.vtape.now c.loop-p.q c.args.vhi c.args.n K w u whole first c.args.out.now c.args.at c.loop-p.to c.loop-p.out c.loop-p.fresh) → Table c.args.text.now c.args.table.now c.args.paths K → place_of K w ≡ c.args.place → order_at x c.loop-p-test.true ≡ 1 = λ K w u whole first x a b. let l = c.loop-p-test.true in let o = sym (order-at x l (c.own_place-own.ensures K w a b) (c.order_of-order.ensures K w a)) in order_same (label K w (next_of x l).name (next_of x l).kids) (first_label K w x.other) (λ z. c.if-order-eq2.false (o ∙ z)) (λ z. c.if-order-eq0.false (o ∙ z)) in
-    let above-is : (K : KeyList) (w : Path) → Table c.args.text.now c.args.table.now c.args.paths K → place_of K w ≡ c.args.place → above K w ≡ true = λ K w a b. sym (c.is_above.ensures c.args.text.now K w a b) ∙ not-false _ c.if-not-is_above.false-raw in
+    let above-is : (K : KeyList) (w : Path) → Table c.args.text.now c.args.table.now c.args.paths K → place_of K w ≡ c.args.place → above K w ≡ true = λ K w a b. sym (c.is_above.ensures c.args.text.now K w a b) ∙ c.if-not-is_above.false in
     let way : Way c.args.src.now c.args.tape.now c.loop-p.p c.args.hi c.args.vsrc.now c.args.vtape.now c.loop-p.q c.args.vhi c.args.n c.requires.0.key_list c.requires.0.path c.requires.0.times (add_in c.requires.0.key_list c.args.n c.requires.0.path c.requires.0.times c.requires.0.forest c.requires.0.other) c.requires.0.forest c.args.out.now c.args.at c.loop-p.to c.loop-p.out c.loop-p.fresh = let h = c.requires.0 in c.loop-p.invariant.5 h.key_list h.path h.times h.forest h.other h.held (above-is h.key_list h.path h.held.tabled h.held.place_is) in
     let matched : c.loop-p.q < c.args.vhi = let x = way in let h = c.requires.0.held in let e = equal _ _ _ _ _ x h.tabled h.place_is in there x c.loop-p-test.true (λ z. omega (arith, e, z)) in
     (front way.vtape matched).held
@@ -247,7 +245,7 @@ write_added-view_at-w-requires-else-order-eq0 t c =
 pub write_added-overflow_add-to-else-order-eq0 : goal.write_added-overflow_add-to-else-order-eq0
 write_added-overflow_add-to-else-order-eq0 t c =
     let equal : (K : KeyList) (w : Path) (u : Times) (whole first : Forest) (x : Way c.args.src.now c.args.tape.now c.loop-p.p c.args.hi c.args.vsrc.now c.args.vtape.now c.loop-p.q c.args.vhi c.args.n K w u whole first c.args.out.now c.args.at c.loop-p.to c.loop-p.out c.loop-p.fresh) → Table c.args.text.now c.args.table.now c.args.paths K → place_of K w ≡ c.args.place → order_at x c.loop-p-test.true ≡ 1 = λ K w u whole first x a b. let l = c.loop-p-test.true in let o = sym (order-at x l (c.own_place-own.ensures K w a b) (c.order_of-order.ensures K w a)) in order_same (label K w (next_of x l).name (next_of x l).kids) (first_label K w x.other) (λ z. c.if-order-eq2.false (o ∙ z)) (λ z. c.if-order-eq0.false (o ∙ z)) in
-    let above-is : (K : KeyList) (w : Path) → Table c.args.text.now c.args.table.now c.args.paths K → place_of K w ≡ c.args.place → above K w ≡ true = λ K w a b. sym (c.is_above.ensures c.args.text.now K w a b) ∙ not-false _ c.if-not-is_above.false-raw in
+    let above-is : (K : KeyList) (w : Path) → Table c.args.text.now c.args.table.now c.args.paths K → place_of K w ≡ c.args.place → above K w ≡ true = λ K w a b. sym (c.is_above.ensures c.args.text.now K w a b) ∙ c.if-not-is_above.false in
     let way : Way c.args.src.now c.args.tape.now c.loop-p.p c.args.hi c.args.vsrc.now c.args.vtape.now c.loop-p.q c.args.vhi c.args.n c.requires.0.key_list c.requires.0.path c.requires.0.times (add_in c.requires.0.key_list c.args.n c.requires.0.path c.requires.0.times c.requires.0.forest c.requires.0.other) c.requires.0.forest c.args.out.now c.args.at c.loop-p.to c.loop-p.out c.loop-p.fresh = let h = c.requires.0 in c.loop-p.invariant.5 h.key_list h.path h.times h.forest h.other h.held (above-is h.key_list h.path h.held.tabled h.held.place_is) in
     let matched : c.loop-p.q < c.args.vhi = let x = way in let h = c.requires.0.held in let e = equal _ _ _ _ _ x h.tabled h.place_is in there x c.loop-p-test.true (λ z. omega (arith, e, z)) in
     let grown : Grew c.loop-p.out c.loop-p.to (both_part c.args.n (next_of (way) c.loop-p-test.true).own (next_of (way) c.loop-p-test.true).name (inside c.requires.0.key_list c.args.n (c.requires.0.path ▸ (next_of (way) c.loop-p-test.true).name) (set_in c.args.n c.requires.0.times (next_of (way) c.loop-p-test.true).own) (next_of (way) c.loop-p-test.true).kids (other_of (way) (matched)).kids)) (sibling (next_of (way) c.loop-p-test.true).own (next_of (way) c.loop-p-test.true).name (next_of (way) c.loop-p-test.true).kids) (next_at c.args.vtape.now c.loop-p.q - c.loop-p.q) (262144 * (next_at c.args.tape.now c.loop-p.p - c.loop-p.p + (next_at c.args.vtape.now c.loop-p.q - c.loop-p.q))) (record { at = c.loop-p.to + c.write_both-x.result.at; fresh = c.write_both-x.result.fresh }) (put_mid c.least-from.result (length c.loop-p.out - c.least-from.result) c.loop-p.out c.write_both-x.new.out) = let x = way in let l = c.loop-p-test.true in let i = matched in let h = c.requires.0 in grew-lent c.loop-p.out c.loop-p.to c.least-from.result c.least-from.ensures (c.write_both-x.ensures h.key_list h.path h.times (next_of x l).own (next_of x l).name (next_of x l).kids (other_of x i).kids (both_of x l i (equal _ _ _ _ _ x h.held.tabled h.held.place_is) h.held.tabled (c.own_place-own.ensures h.key_list h.path h.held.tabled h.held.place_is) h.held.set)) in
@@ -259,7 +257,7 @@ write_added-overflow_add-to-else-order-eq0 t c =
 pub write_added-overflow_add-fresh-else-order-eq0 : goal.write_added-overflow_add-fresh-else-order-eq0
 write_added-overflow_add-fresh-else-order-eq0 t c =
     let equal : (K : KeyList) (w : Path) (u : Times) (whole first : Forest) (x : Way c.args.src.now c.args.tape.now c.loop-p.p c.args.hi c.args.vsrc.now c.args.vtape.now c.loop-p.q c.args.vhi c.args.n K w u whole first c.args.out.now c.args.at c.loop-p.to c.loop-p.out c.loop-p.fresh) → Table c.args.text.now c.args.table.now c.args.paths K → place_of K w ≡ c.args.place → order_at x c.loop-p-test.true ≡ 1 = λ K w u whole first x a b. let l = c.loop-p-test.true in let o = sym (order-at x l (c.own_place-own.ensures K w a b) (c.order_of-order.ensures K w a)) in order_same (label K w (next_of x l).name (next_of x l).kids) (first_label K w x.other) (λ z. c.if-order-eq2.false (o ∙ z)) (λ z. c.if-order-eq0.false (o ∙ z)) in
-    let above-is : (K : KeyList) (w : Path) → Table c.args.text.now c.args.table.now c.args.paths K → place_of K w ≡ c.args.place → above K w ≡ true = λ K w a b. sym (c.is_above.ensures c.args.text.now K w a b) ∙ not-false _ c.if-not-is_above.false-raw in
+    let above-is : (K : KeyList) (w : Path) → Table c.args.text.now c.args.table.now c.args.paths K → place_of K w ≡ c.args.place → above K w ≡ true = λ K w a b. sym (c.is_above.ensures c.args.text.now K w a b) ∙ c.if-not-is_above.false in
     let way : Way c.args.src.now c.args.tape.now c.loop-p.p c.args.hi c.args.vsrc.now c.args.vtape.now c.loop-p.q c.args.vhi c.args.n c.requires.0.key_list c.requires.0.path c.requires.0.times (add_in c.requires.0.key_list c.args.n c.requires.0.path c.requires.0.times c.requires.0.forest c.requires.0.other) c.requires.0.forest c.args.out.now c.args.at c.loop-p.to c.loop-p.out c.loop-p.fresh = let h = c.requires.0 in c.loop-p.invariant.5 h.key_list h.path h.times h.forest h.other h.held (above-is h.key_list h.path h.held.tabled h.held.place_is) in
     let matched : c.loop-p.q < c.args.vhi = let x = way in let h = c.requires.0.held in let e = equal _ _ _ _ _ x h.tabled h.place_is in there x c.loop-p-test.true (λ z. omega (arith, e, z)) in
     let grown : Grew c.loop-p.out c.loop-p.to (both_part c.args.n (next_of (way) c.loop-p-test.true).own (next_of (way) c.loop-p-test.true).name (inside c.requires.0.key_list c.args.n (c.requires.0.path ▸ (next_of (way) c.loop-p-test.true).name) (set_in c.args.n c.requires.0.times (next_of (way) c.loop-p-test.true).own) (next_of (way) c.loop-p-test.true).kids (other_of (way) (matched)).kids)) (sibling (next_of (way) c.loop-p-test.true).own (next_of (way) c.loop-p-test.true).name (next_of (way) c.loop-p-test.true).kids) (next_at c.args.vtape.now c.loop-p.q - c.loop-p.q) (262144 * (next_at c.args.tape.now c.loop-p.p - c.loop-p.p + (next_at c.args.vtape.now c.loop-p.q - c.loop-p.q))) (record { at = c.loop-p.to + c.write_both-x.result.at; fresh = c.write_both-x.result.fresh }) (put_mid c.least-from.result (length c.loop-p.out - c.least-from.result) c.loop-p.out c.write_both-x.new.out) = let x = way in let l = c.loop-p-test.true in let i = matched in let h = c.requires.0 in grew-lent c.loop-p.out c.loop-p.to c.least-from.result c.least-from.ensures (c.write_both-x.ensures h.key_list h.path h.times (next_of x l).own (next_of x l).name (next_of x l).kids (other_of x i).kids (both_of x l i (equal _ _ _ _ _ x h.held.tabled h.held.place_is) h.held.tabled (c.own_place-own.ensures h.key_list h.path h.held.tabled h.held.place_is) h.held.set)) in
@@ -270,7 +268,7 @@ write_added-overflow_add-fresh-else-order-eq0 t c =
 pub write_added-loop-p-smaller : goal.write_added-loop-p-smaller
 write_added-loop-p-smaller t c =
     let equal : (K : KeyList) (w : Path) (u : Times) (whole first : Forest) (x : Way c.args.src.now c.args.tape.now c.loop-p.p c.args.hi c.args.vsrc.now c.args.vtape.now c.loop-p.q c.args.vhi c.args.n K w u whole first c.args.out.now c.args.at c.loop-p.to c.loop-p.out c.loop-p.fresh) → Table c.args.text.now c.args.table.now c.args.paths K → place_of K w ≡ c.args.place → order_at x c.loop-p-test.true ≡ 1 = λ K w u whole first x a b. let l = c.loop-p-test.true in let o = sym (order-at x l (c.own_place-own.ensures K w a b) (c.order_of-order.ensures K w a)) in order_same (label K w (next_of x l).name (next_of x l).kids) (first_label K w x.other) (λ z. c.if-order-eq2.false (o ∙ z)) (λ z. c.if-order-eq0.false (o ∙ z)) in
-    let above-is : (K : KeyList) (w : Path) → Table c.args.text.now c.args.table.now c.args.paths K → place_of K w ≡ c.args.place → above K w ≡ true = λ K w a b. sym (c.is_above.ensures c.args.text.now K w a b) ∙ not-false _ c.if-not-is_above.false-raw in
+    let above-is : (K : KeyList) (w : Path) → Table c.args.text.now c.args.table.now c.args.paths K → place_of K w ≡ c.args.place → above K w ≡ true = λ K w a b. sym (c.is_above.ensures c.args.text.now K w a b) ∙ c.if-not-is_above.false in
     let way : Way c.args.src.now c.args.tape.now c.loop-p.p c.args.hi c.args.vsrc.now c.args.vtape.now c.loop-p.q c.args.vhi c.args.n c.requires.0.key_list c.requires.0.path c.requires.0.times (add_in c.requires.0.key_list c.args.n c.requires.0.path c.requires.0.times c.requires.0.forest c.requires.0.other) c.requires.0.forest c.args.out.now c.args.at c.loop-p.to c.loop-p.out c.loop-p.fresh = let h = c.requires.0 in c.loop-p.invariant.5 h.key_list h.path h.times h.forest h.other h.held (above-is h.key_list h.path h.held.tabled h.held.place_is) in
     let matched : c.loop-p.q < c.args.vhi = let x = way in let h = c.requires.0.held in let e = equal _ _ _ _ _ x h.tabled h.place_is in there x c.loop-p-test.true (λ z. omega (arith, e, z)) in
     let g = front way.tape c.loop-p-test.true in
@@ -280,7 +278,7 @@ write_added-loop-p-smaller t c =
 pub write_added-loop-p-preserved : goal.write_added-loop-p-preserved
 write_added-loop-p-preserved t c =
     let equal : (K : KeyList) (w : Path) (u : Times) (whole first : Forest) (x : Way c.args.src.now c.args.tape.now c.loop-p.p c.args.hi c.args.vsrc.now c.args.vtape.now c.loop-p.q c.args.vhi c.args.n K w u whole first c.args.out.now c.args.at c.loop-p.to c.loop-p.out c.loop-p.fresh) → Table c.args.text.now c.args.table.now c.args.paths K → place_of K w ≡ c.args.place → order_at x c.loop-p-test.true ≡ 1 = λ K w u whole first x a b. let l = c.loop-p-test.true in let o = sym (order-at x l (c.own_place-own.ensures K w a b) (c.order_of-order.ensures K w a)) in order_same (label K w (next_of x l).name (next_of x l).kids) (first_label K w x.other) (λ z. c.if-order-eq2.false (o ∙ z)) (λ z. c.if-order-eq0.false (o ∙ z)) in
-    let above-is : (K : KeyList) (w : Path) → Table c.args.text.now c.args.table.now c.args.paths K → place_of K w ≡ c.args.place → above K w ≡ true = λ K w a b. sym (c.is_above.ensures c.args.text.now K w a b) ∙ not-false _ c.if-not-is_above.false-raw in
+    let above-is : (K : KeyList) (w : Path) → Table c.args.text.now c.args.table.now c.args.paths K → place_of K w ≡ c.args.place → above K w ≡ true = λ K w a b. sym (c.is_above.ensures c.args.text.now K w a b) ∙ c.if-not-is_above.false in
     let way : Way c.args.src.now c.args.tape.now c.loop-p.p c.args.hi c.args.vsrc.now c.args.vtape.now c.loop-p.q c.args.vhi c.args.n c.requires.0.key_list c.requires.0.path c.requires.0.times (add_in c.requires.0.key_list c.args.n c.requires.0.path c.requires.0.times c.requires.0.forest c.requires.0.other) c.requires.0.forest c.args.out.now c.args.at c.loop-p.to c.loop-p.out c.loop-p.fresh = let h = c.requires.0 in c.loop-p.invariant.5 h.key_list h.path h.times h.forest h.other h.held (above-is h.key_list h.path h.held.tabled h.held.place_is) in
     let matched : c.loop-p.q < c.args.vhi = let x = way in let h = c.requires.0.held in let e = equal _ _ _ _ _ x h.tabled h.place_is in there x c.loop-p-test.true (λ z. omega (arith, e, z)) in
     let grown : Grew c.loop-p.out c.loop-p.to (both_part c.args.n (next_of (way) c.loop-p-test.true).own (next_of (way) c.loop-p-test.true).name (inside c.requires.0.key_list c.args.n (c.requires.0.path ▸ (next_of (way) c.loop-p-test.true).name) (set_in c.args.n c.requires.0.times (next_of (way) c.loop-p-test.true).own) (next_of (way) c.loop-p-test.true).kids (other_of (way) (matched)).kids)) (sibling (next_of (way) c.loop-p-test.true).own (next_of (way) c.loop-p-test.true).name (next_of (way) c.loop-p-test.true).kids) (next_at c.args.vtape.now c.loop-p.q - c.loop-p.q) (262144 * (next_at c.args.tape.now c.loop-p.p - c.loop-p.p + (next_at c.args.vtape.now c.loop-p.q - c.loop-p.q))) (record { at = c.loop-p.to + c.write_both-x.result.at; fresh = c.write_both-x.result.fresh }) (put_mid c.least-from.result (length c.loop-p.out - c.least-from.result) c.loop-p.out c.write_both-x.new.out) = let x = way in let l = c.loop-p-test.true in let i = matched in let h = c.requires.0 in grew-lent c.loop-p.out c.loop-p.to c.least-from.result c.least-from.ensures (c.write_both-x.ensures h.key_list h.path h.times (next_of x l).own (next_of x l).name (next_of x l).kids (other_of x i).kids (both_of x l i (equal _ _ _ _ _ x h.held.tabled h.held.place_is) h.held.tabled (c.own_place-own.ensures h.key_list h.path h.held.tabled h.held.place_is) h.held.set)) in
@@ -304,14 +302,14 @@ write_added-loop-p-preserved t c =
 
 pub write_added-write_new-last-requires : goal.write_added-write_new-last-requires
 write_added-write_new-last-requires t c =
-    let above-is : (K : KeyList) (w : Path) → Table c.args.text.now c.args.table.now c.args.paths K → place_of K w ≡ c.args.place → above K w ≡ true = λ K w a b. sym (c.is_above.ensures c.args.text.now K w a b) ∙ not-false _ c.if-not-is_above.false-raw in
+    let above-is : (K : KeyList) (w : Path) → Table c.args.text.now c.args.table.now c.args.paths K → place_of K w ≡ c.args.place → above K w ≡ true = λ K w a b. sym (c.is_above.ensures c.args.text.now K w a b) ∙ c.if-not-is_above.false in
     let way : Way c.args.src.now c.args.tape.now c.loop-p.p c.args.hi c.args.vsrc.now c.args.vtape.now c.loop-p.q c.args.vhi c.args.n c.requires.0.key_list c.requires.0.path c.requires.0.times (add_in c.requires.0.key_list c.args.n c.requires.0.path c.requires.0.times c.requires.0.forest c.requires.0.other) c.requires.0.forest c.args.out.now c.args.at c.loop-p.to c.loop-p.out c.loop-p.fresh = let h = c.requires.0 in c.loop-p.invariant.5 h.key_list h.path h.times h.forest h.other h.held (above-is h.key_list h.path h.held.tabled h.held.place_is) in
     let x = way in
     (c.requires.1, record { forest = x.other; tape = x.vtape }, c.requires.3, omega (arith, c.loop-p.invariant.2, c.requires.4))
 
 pub write_added-overflow_sub-result : goal.write_added-overflow_sub-result
 write_added-overflow_sub-result t c =
-    let above-is : (K : KeyList) (w : Path) → Table c.args.text.now c.args.table.now c.args.paths K → place_of K w ≡ c.args.place → above K w ≡ true = λ K w a b. sym (c.is_above.ensures c.args.text.now K w a b) ∙ not-false _ c.if-not-is_above.false-raw in
+    let above-is : (K : KeyList) (w : Path) → Table c.args.text.now c.args.table.now c.args.paths K → place_of K w ≡ c.args.place → above K w ≡ true = λ K w a b. sym (c.is_above.ensures c.args.text.now K w a b) ∙ c.if-not-is_above.false in
     let way : Way c.args.src.now c.args.tape.now c.loop-p.p c.args.hi c.args.vsrc.now c.args.vtape.now c.loop-p.q c.args.vhi c.args.n c.requires.0.key_list c.requires.0.path c.requires.0.times (add_in c.requires.0.key_list c.args.n c.requires.0.path c.requires.0.times c.requires.0.forest c.requires.0.other) c.requires.0.forest c.args.out.now c.args.at c.loop-p.to c.loop-p.out c.loop-p.fresh = let h = c.requires.0 in c.loop-p.invariant.5 h.key_list h.path h.times h.forest h.other h.held (above-is h.key_list h.path h.held.tabled h.held.place_is) in
     tape-le way.vtape
 
@@ -320,14 +318,14 @@ write_added-overflow_add-result t c = omega (arith, c.loop-p.invariant.3, c.requ
 
 pub write_added-shape_of-out : goal.write_added-shape_of-out
 write_added-shape_of-out t c =
-    let above-is : (K : KeyList) (w : Path) → Table c.args.text.now c.args.table.now c.args.paths K → place_of K w ≡ c.args.place → above K w ≡ true = λ K w a b. sym (c.is_above.ensures c.args.text.now K w a b) ∙ not-false _ c.if-not-is_above.false-raw in
+    let above-is : (K : KeyList) (w : Path) → Table c.args.text.now c.args.table.now c.args.paths K → place_of K w ≡ c.args.place → above K w ≡ true = λ K w a b. sym (c.is_above.ensures c.args.text.now K w a b) ∙ c.if-not-is_above.false in
     let way : Way c.args.src.now c.args.tape.now c.loop-p.p c.args.hi c.args.vsrc.now c.args.vtape.now c.loop-p.q c.args.vhi c.args.n c.requires.0.key_list c.requires.0.path c.requires.0.times (add_in c.requires.0.key_list c.args.n c.requires.0.path c.requires.0.times c.requires.0.forest c.requires.0.other) c.requires.0.forest c.args.out.now c.args.at c.loop-p.to c.loop-p.out c.loop-p.fresh = let h = c.requires.0 in c.loop-p.invariant.5 h.key_list h.path h.times h.forest h.other h.held (above-is h.key_list h.path h.held.tabled h.held.place_is) in
     let x = way in
     ap length (c.write_new-last.ensures.0 c.requires.0.key_list c.requires.0.path x.other x.vtape x.version).bytes ∙ length_at _ _ _ ∙ c.loop-p.invariant.4
 
 pub write_added-returns : goal.write_added-returns
 write_added-returns t c K w u f v g =
-    let above-is : (K : KeyList) (w : Path) → Table c.args.text.now c.args.table.now c.args.paths K → place_of K w ≡ c.args.place → above K w ≡ true = λ K w a b. sym (c.is_above.ensures c.args.text.now K w a b) ∙ not-false _ c.if-not-is_above.false-raw in
+    let above-is : (K : KeyList) (w : Path) → Table c.args.text.now c.args.table.now c.args.paths K → place_of K w ≡ c.args.place → above K w ≡ true = λ K w a b. sym (c.is_above.ensures c.args.text.now K w a b) ∙ c.if-not-is_above.false in
     let a = above-is K w g.tabled g.place_is in
     let x = c.loop-p.invariant.5 K w u f v g a in
     let y = way-done x c.loop-p-test.false (c.write_new-last.ensures.0 K w x.other x.vtape x.version) in

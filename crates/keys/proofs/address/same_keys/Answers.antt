@@ -1,9 +1,8 @@
 -- `same_keys` meets its contract: the values from key j on are the same where all are.
-use Prim.Native.Nat.{◌+◌, ◌-◌, ◌≤◌, ◌<◌}
+use Prim.Native.Nat.{◌+◌, ◌≤◌, ◌<◌}
 use native.Mathlib.Omega.{arith}
 use mathlib.Core.Path.{◌≡◌, refl, sym, ◌∙◌}
 use borrow.Author.Rules.{rules}
-use borrow.Author.Tests.{not-true, not-false}
 use lib.ListN.{length}
 use Rattle.xml.specs.Forest.{Forest}
 use Rattle.xml.specs.Tape.{Node, Tape}
@@ -12,7 +11,7 @@ use Rattle.keys.specs.Version.{called, value_in}
 use Rattle.keys.specs.Placed.{OfPlace}
 use Rattle.keys.specs.Named.{few-keys}
 use Rattle.keys.specs.LabelLaws.{key-room, key-within, key-name-is, key_bytes, value-node}
-use Rattle.keys.specs.SameStep.{From, keys-differ, keys_on, keys-done}
+use Rattle.keys.specs.SameStep.{keys-differ, keys_on, keys-done}
 use Rattle.keys.proofs.address.same_keys.Goals as goal
 
 pub key_count-count-requires : goal.key_count-count-requires
@@ -95,7 +94,7 @@ returns-then-not-same_bytes c =
     let o = c.loop-j in
     let l : o.j < length (key_names_at K p) = omega (arith, c.key_count-count.ensures a.text.now K p t e, c.loop-j-test.true) in
     let q = rw c.view_at-v.ensures at c.same_bytes.ensures in
-    sym (o.invariant.1 K p t e f h ∙ keys-differ a.s.now a.keys (key_names_at K p) f o.j l (long K p t e) (key-name-is t p a.own e o.j l) (value f h).bytes-are (sym q ∙ not-true _ c.if-not-same_bytes.true-raw))
+    sym (o.invariant.1 K p t e f h ∙ keys-differ a.s.now a.keys (key_names_at K p) f o.j l (long K p t e) (key-name-is t p a.own e o.j l) (value f h).bytes-are (sym q ∙ c.if-not-same_bytes.true))
 
 pub overflow_add-j : goal.overflow_add-j
 overflow_add-j c = omega arith
@@ -111,7 +110,7 @@ loop-j-preserved c =
     let value : (f : Forest) → Tape c.args.src.now c.args.tape.now c.args.lo c.args.hi f → Node c.args.src.now c.args.tape.now (c.find_key-x.result + 1) 0 (value_in (called (key_bytes c.args.text.now c.args.table.now (c.args.own + 1 + c.loop-j.j)) f)) = value-node c.loop-j.j c.requires.keyed (own_key) c.find_key-x.result (rw c.key_name-key.ensures at c.find_key-x.ensures) in
     let a = c.args in
     let o = c.loop-j in
-    (omega arith, λ K p t e f h. let l : o.j < length (key_names_at K p) = omega (arith, c.key_count-count.ensures a.text.now K p t e, c.loop-j-test.true) in let q = rw c.view_at-v.ensures at c.same_bytes.ensures in (o.invariant.1 K p t e f h ∙ keys_on a.s.now a.keys (key_names_at K p) f o.j l (long K p t e) (key-name-is t p a.own e o.j l) (value f h).bytes-are (sym q ∙ not-false _ c.if-not-same_bytes.false-raw)))
+    (omega arith, λ K p t e f h. let l : o.j < length (key_names_at K p) = omega (arith, c.key_count-count.ensures a.text.now K p t e, c.loop-j-test.true) in let q = rw c.view_at-v.ensures at c.same_bytes.ensures in (o.invariant.1 K p t e f h ∙ keys_on a.s.now a.keys (key_names_at K p) f o.j l (long K p t e) (key-name-is t p a.own e o.j l) (value f h).bytes-are (sym q ∙ c.if-not-same_bytes.false)))
 
 pub returns : goal.returns
 returns c =

@@ -2,14 +2,12 @@
 use native.Mathlib.Omega.{arith}
 use mathlib.Core.Path.{sym, ◌∙◌, ap, subst}
 use mathlib.Core.List.{[]}
-use borrow.Author.Tests.{not-true, not-false}
 use lib.ListN.{length, get_or}
 use Rattle.keys.specs.KeyList.{Path, key_names_at}
 use Rattle.keys.specs.Version.{◌▸◌}
 use Rattle.keys.specs.Table.{place_of}
 use Rattle.keys.specs.AddressParts.{Inside}
 use Rattle.keys.specs.SameStep.{named_other, named-same, named-on}
-use borrow.Author.Rules.{rules}
 use Rattle.keys.proofs.address.same_step.Goals as goal
 
 pub same_bytes-requires : goal.same_bytes-requires
@@ -23,13 +21,13 @@ returns-then-not-same_bytes c = λ K q l t x m k d y.
     let h = c.requires.0 in
     let a = c.args in
     let s = a.s.now in
-    named_other K s l q x m k (sym (rw (c.view_at-v.ensures, d.bytes-are) at c.same_bytes.ensures) ∙ not-true _ c.if-not-same_bytes.true-raw)
+    named_other K s l q x m k (sym (rw (c.view_at-v.ensures, d.bytes-are) at c.same_bytes.ensures) ∙ c.if-not-same_bytes.true)
 
 pub same_keys-requires : goal.same_keys-requires
 same_keys-requires c = let h = c.requires.0 in
     let a = c.args in
     let s = a.s.now in
-    let e = named-same h.key_list s h.step h.path h.step_is h.called-as h.kids (sym (rw (c.view_at-v.ensures, h.node.bytes-are) at c.same_bytes.ensures) ∙ not-false _ c.if-not-same_bytes.false-raw) in
+    let e = named-same h.key_list s h.step h.path h.step_is h.called-as h.kids (sym (rw (c.view_at-v.ensures, h.node.bytes-are) at c.same_bytes.ensures) ∙ c.if-not-same_bytes.false) in
     rw c.view_at-v.ensures (record { keyed = record { key_list = h.key_list; path = h.path ▸ h.called-as; tabled = h.tabled; place_is = ap (place_of h.key_list) (sym e) ∙ sym h.step_is.place_is; kids = h.kids; tape = h.tape; once = h.once }; inside = subst (λ (z : Path). Inside s (length (key_names_at h.key_list z)) (get_or a.values a.i [])) e h.step_is.values-inside })
 
 pub returns : goal.returns

@@ -2,10 +2,8 @@
 use Prim.Native.Nat.{◌-◌}
 use native.Mathlib.Omega.{arith}
 use mathlib.Core.Path.{sym, ◌∙◌}
-use borrow.Author.Tests.{not-true, not-false}
 use lib.Seq.{slice, length-slice}
 use Rattle.keys.specs.AddressSkips.{skip-out, skip-short, skip-other, skip-word}
-use borrow.Author.Rules.{rules}
 use Rattle.keys.proofs.address.skip.Goals as goal
 
 pub returns-then-s-at : goal.returns-then-s-at
@@ -24,9 +22,9 @@ same_bytes-requires c = record { le₁ = omega arith; in₁ = omega arith; le₂
 pub returns-then-not-same_bytes : goal.returns-then-not-same_bytes
 returns-then-not-same_bytes c = let a = c.args in
     let s = a.s.now in
-    skip-other s a.at (slice a.a a.e a.word.now) (a.e - a.a) (length-slice a.a a.e a.word.now (omega arith)) (omega arith) (sym c.same_bytes.ensures ∙ not-true _ c.if-not-same_bytes.true-raw)
+    skip-other s a.at (slice a.a a.e a.word.now) (a.e - a.a) (length-slice a.a a.e a.word.now (omega arith)) (omega arith) (sym c.same_bytes.ensures ∙ c.if-not-same_bytes.true)
 
 pub returns : goal.returns
 returns c = let a = c.args in
     let s = a.s.now in
-    skip-word s a.at (slice a.a a.e a.word.now) (a.e - a.a) (length-slice a.a a.e a.word.now (omega arith)) (omega arith) (sym c.same_bytes.ensures ∙ not-false _ c.if-not-same_bytes.false-raw)
+    skip-word s a.at (slice a.a a.e a.word.now) (a.e - a.a) (length-slice a.a a.e a.word.now (omega arith)) (omega arith) (sym c.same_bytes.ensures ∙ c.if-not-same_bytes.false)

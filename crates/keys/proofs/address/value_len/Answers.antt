@@ -1,12 +1,10 @@
 -- `value_len` meets its contract: the bytes passed and the run from the place on are the whole run.
 use mathlib.Core.Path.{◌≡◌, ap, sym, ◌∙◌}
-use Prim.Native.Nat.{ℕ, ◌+◌, ◌-◌, ◌<◌, ◌≤◌}
+use Prim.Native.Nat.{ℕ, ◌+◌, ◌-◌, ◌<◌}
 use native.Mathlib.Nat.{add-zero, zero-add}
 use native.Mathlib.Omega.{arith}
-use borrow.Author.Rules.{rules}
 use borrow.Author.Tests.{ltb-true, ltb-false}
-use lib.ListN.{length, drop, get_or}
-use Rattle.xml.specs.SameTapes.{not-true, not-false}
+use lib.ListN.{length, drop}
 use Rattle.xml.specs.Read.{name_rest}
 use Rattle.xml.specs.ScanLaws.{name_rest-none, name_rest-end, name_rest-stop, name_rest-more}
 use Rattle.keys.proofs.address.value_len.Goals as goal
@@ -29,7 +27,7 @@ returns-then-not-is_name_byte c = let src = c.args.s.now in
     let n = c.loop-n.n in
     let k = c.is_name_byte in
     let h : at + n < length src = omega (arith, ltb-true) in
-    omega (arith, name_rest-stop src (at + n) (33 - n) h (sym k.ensures ∙ not-true _ c.if-not-is_name_byte.true-raw))
+    omega (arith, name_rest-stop src (at + n) (33 - n) h (sym k.ensures ∙ c.if-not-is_name_byte.true))
 
 pub overflow_add-n : goal.overflow_add-n
 overflow_add-n c = omega (arith, ltb-true)
@@ -45,7 +43,7 @@ loop-n-preserved c = let src = c.args.s.now in
     let h : at + n < length src = omega (arith, ltb-true) in
     let more =
     name_rest-more src (at + n) (33 - n) (33 - (n + 1)) (at + (n + 1)) h
-    (sym k.ensures ∙ not-false _ c.if-not-is_name_byte.false-raw) (omega arith) (omega arith)
+    (sym k.ensures ∙ c.if-not-is_name_byte.false) (omega arith) (omega arith)
     in
     (omega arith, omega arith, omega arith)
 

@@ -3,18 +3,17 @@ use native.Mathlib.Omega.{arith}
 use mathlib.Core.Path.{◌≡◌, refl, sym, ◌∙◌}
 use mathlib.Core.Bool.{true, false}
 use lib.ListN.{length, length-set}
-use borrow.Author.Tests.{not-true, not-false}
 use Rattle.xml.specs.Bytes.{Bytes}
-use Rattle.xml.specs.Tape.{next_at, Node}
+use Rattle.xml.specs.Tape.{Node}
 use Rattle.xml.specs.TapeLaws.{tape-le}
 use Rattle.keys.specs.KeyList.{above}
 use Rattle.keys.specs.Version.{◌▸◌}
 use Rattle.keys.specs.Table.{place_of}
 use Rattle.keys.specs.Placed.{OfPlace}
 use Rattle.keys.specs.Entries.{Sorted}
-use Rattle.keys.specs.Building.{Progress, turn, turn-fit, progress-twice, progress-more, progress-done, fit-checked, fit-few-tags, fit-twice, progress_start}
+use Rattle.keys.specs.Building.{turn, turn-fit, progress-twice, progress-more, progress-done, fit-checked, fit-few-tags, fit-twice, progress_start}
 use Rattle.keys.specs.BuildingLaws.{fit-kids, element-twice, element-arranged, element-end, element-size, fit-linked, fit-few, content-copied}
-use Prim.Native.Nat.{ℕ, ◌+◌, ◌*◌, ◌-◌, ◌<◌, ◌≤◌}
+use Prim.Native.Nat.{◌+◌, ◌<◌, ◌≤◌}
 use Rattle.keys.proofs.arrange.+arrange_content_arrange_element.Goals as goal
 
 pub arrange_content-is_above-requires : goal.arrange_content-is_above-requires
@@ -22,7 +21,7 @@ arrange_content-is_above-requires t c = c.requires.0.tabled.held
 
 pub arrange_content-copy-requires : goal.arrange_content-copy-requires
 arrange_content-copy-requires t c =
-    let low : OfPlace c.args.text.now c.args.table.now c.args.n c.args.place (λ K o. above K o ≡ false) = λ K o u e. sym (c.is_above.ensures c.args.text.now K o u e) ∙ not-true c.is_above.result c.if-not-is_above.true-raw in
+    let low : OfPlace c.args.text.now c.args.table.now c.args.n c.args.place (λ K o. above K o ≡ false) = λ K o u e. sym (c.is_above.ensures c.args.text.now K o u e) ∙ c.if-not-is_above.true in
     let few : c.args.m + c.args.hi ≤ 512 + c.args.lo = let g = c.requires.0 in fit-few g (low g.key_list g.path g.tabled g.place_is) in
     (fit-linked c.requires.0, few, c.requires.1)
 
@@ -31,7 +30,7 @@ arrange_content-shape_of-out-then-not-is_above t c = c.copy.ensures.size
 
 pub arrange_content-returns-then-not-is_above : goal.arrange_content-returns-then-not-is_above
 arrange_content-returns-then-not-is_above t c =
-    let low : OfPlace c.args.text.now c.args.table.now c.args.n c.args.place (λ K o. above K o ≡ false) = λ K o u e. sym (c.is_above.ensures c.args.text.now K o u e) ∙ not-true c.is_above.result c.if-not-is_above.true-raw in
+    let low : OfPlace c.args.text.now c.args.table.now c.args.n c.args.place (λ K o. above K o ≡ false) = λ K o u e. sym (c.is_above.ensures c.args.text.now K o u e) ∙ c.if-not-is_above.true in
     let few : c.args.m + c.args.hi ≤ 512 + c.args.lo = let g = c.requires.0 in fit-few g (low g.key_list g.path g.tabled g.place_is) in
     content-copied c.requires.0 c.args.out.now low c.copy.ensures few c.requires.1
 
@@ -40,13 +39,13 @@ arrange_content-order_in-k-requires t c = (fit-checked c.requires.0, fit-few-tag
 
 pub arrange_content-returns-then-k-eq513 : goal.arrange_content-returns-then-k-eq513
 arrange_content-returns-then-k-eq513 t c =
-    let high : above c.requires.0.key_list c.requires.0.path ≡ true = let g = c.requires.0 in sym (c.is_above.ensures c.args.text.now g.key_list g.path g.tabled g.place_is) ∙ not-false c.is_above.result c.if-not-is_above.false-raw in
+    let high : above c.requires.0.key_list c.requires.0.path ≡ true = let g = c.requires.0 in sym (c.is_above.ensures c.args.text.now g.key_list g.path g.tabled g.place_is) ∙ c.if-not-is_above.false in
     let listed : Sorted c.requires.0.key_list c.requires.0.path c.args.src.now c.args.tape.now c.args.lo c.args.hi c.order_in-k.new.order c.requires.0.forest c.order_in-k.result = let g = c.requires.0 in c.order_in-k.ensures.sorted g.key_list g.path g.tabled g.place_is g.forest g.tape in
     fit-twice c.requires.0 c.args.out.now c.order_in-k.new.order c.order_in-k.result high listed c.if-k-eq513.true
 
 pub arrange_content-loop-j-init : goal.arrange_content-loop-j-init
 arrange_content-loop-j-init t c =
-    let high : above c.requires.0.key_list c.requires.0.path ≡ true = let g = c.requires.0 in sym (c.is_above.ensures c.args.text.now g.key_list g.path g.tabled g.place_is) ∙ not-false c.is_above.result c.if-not-is_above.false-raw in
+    let high : above c.requires.0.key_list c.requires.0.path ≡ true = let g = c.requires.0 in sym (c.is_above.ensures c.args.text.now g.key_list g.path g.tabled g.place_is) ∙ c.if-not-is_above.false in
     let listed : Sorted c.requires.0.key_list c.requires.0.path c.args.src.now c.args.tape.now c.args.lo c.args.hi c.order_in-k.new.order c.requires.0.forest c.order_in-k.result = let g = c.requires.0 in c.order_in-k.ensures.sorted g.key_list g.path g.tabled g.place_is g.forest g.tape in
     progress_start c.requires.0 c.args.out.now c.order_in-k.new.order c.order_in-k.result high listed c.if-k-eq513.false
 

@@ -1,19 +1,17 @@
 -- The bytes, then the one after them.
 use native.Mathlib.Omega.{arith}
 use mathlib.Core.Path.{sym, ◌∙◌}
-use borrow.Author.Tests.{not-true, not-false}
 use Rattle.keys.proofs.ContextLaws.{whole-short, whole-other, whole-ended, whole-on}
-use borrow.Author.Rules.{rules}
 use Rattle.keys.proofs.contexts.stand_whole.Goals as goal
 
 pub returns-then-text-at : goal.returns-then-text-at
 returns-then-text-at c = sym (whole-short c.args.text.now c.args.at c.args.a c.args.e c.requires.2 c.if-text-at.true)
 
 pub returns-then-not-same_long : goal.returns-then-not-same_long
-returns-then-not-same_long c = sym (whole-other c.args.text.now c.args.at c.args.a c.args.e c.requires.2 (sym c.same_long.ensures ∙ not-true c.same_long.result c.if-not-same_long.true-raw))
+returns-then-not-same_long c = sym (whole-other c.args.text.now c.args.at c.args.a c.args.e c.requires.2 (sym c.same_long.ensures ∙ c.if-not-same_long.true))
 
 pub returns-then-next-eq44 : goal.returns-then-next-eq44
-returns-then-next-eq44 c = sym (whole-ended c.args.text.now c.args.at c.args.a c.args.e c.requires.2 (omega arith) (sym c.same_long.ensures ∙ not-false c.same_long.result c.if-not-same_long.false-raw) c.if-next-eq44.true)
+returns-then-next-eq44 c = sym (whole-ended c.args.text.now c.args.at c.args.a c.args.e c.requires.2 (omega arith) (sym c.same_long.ensures ∙ c.if-not-same_long.false) c.if-next-eq44.true)
 
 pub returns : goal.returns
-returns c = sym (whole-on c.args.text.now c.args.at c.args.a c.args.e c.requires.2 (omega arith) (sym c.same_long.ensures ∙ not-false c.same_long.result c.if-not-same_long.false-raw) c.if-next-eq44.false)
+returns c = sym (whole-on c.args.text.now c.args.at c.args.a c.args.e c.requires.2 (omega arith) (sym c.same_long.ensures ∙ c.if-not-same_long.false) c.if-next-eq44.false)

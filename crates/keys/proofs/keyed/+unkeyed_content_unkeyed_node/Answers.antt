@@ -5,10 +5,9 @@ use mathlib.Core.Path.{sym, ◌∙◌}
 use Rattle.xml.specs.Tape.{next_at}
 use Rattle.xml.specs.TapeLaws.{bytes_at, inner-node}
 use Rattle.keys.specs.Version.{◌▸◌}
-use Rattle.keys.specs.Walks.{Walk, OfNodes, walk-front, walk-node, walk-next, walk-kids, Going, going_start, going_more, going-found, going_done}
+use Rattle.keys.specs.Walks.{Walk, walk-front, walk-node, walk-next, walk-kids, going_start, going_more, going-found, going_done}
 use Rattle.keys.specs.Strays.{keyless, keyless-end, keyless-other, keyless-under, keyless-lacking, keyless-inside, keyless-here, keyless-past}
-use Prim.Native.Nat.{ℕ, ◌+◌, ◌*◌, ◌-◌, ◌<◌, ◌≤◌}
-use borrow.Author.Tests.{not-true}
+use Prim.Native.Nat.{◌+◌}
 use Rattle.keys.proofs.keyed.+unkeyed_content_unkeyed_node.Goals as goal
 
 pub unkeyed_content-loop-p-init : goal.unkeyed_content-loop-p-init
@@ -74,7 +73,7 @@ unkeyed_node-returns-then-not-is_above t c K q s e f h = let v = c.view_at-v.ens
     let d = rw v at c.child-below.ensures in
     let o = rw v at c.lacks_key.ensures in
     let n = q ▸ bytes_at c.args.src.now c.args.tape.now c.args.p in
-    sym (keyless-inside K q (i.element k) (sym (o K n s (sym (d K q s e)) i.kids i.tape) ∙ c.if-lacks_key.false) ∙ keyless-under K n i.kids (sym (c.is_above.ensures c.args.text.now K n s (sym (d K q s e))) ∙ not-true _ c.if-not-is_above.true-raw))
+    sym (keyless-inside K q (i.element k) (sym (o K n s (sym (d K q s e)) i.kids i.tape) ∙ c.if-lacks_key.false) ∙ keyless-under K n i.kids (sym (c.is_above.ensures c.args.text.now K n s (sym (d K q s e))) ∙ c.if-not-is_above.true))
 
 pub unkeyed_node-overflow_add-p-2 : goal.unkeyed_node-overflow_add-p-2
 unkeyed_node-overflow_add-p-2 t c = omega (arith, (walk-front c.requires.1 c.requires.0).held, c.well_formed.1.1.1.1.1.0)

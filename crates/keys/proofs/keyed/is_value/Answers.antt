@@ -1,11 +1,6 @@
 -- `keys::keyed::is_value` meets its contract: a run of 1 to 32 bytes is a value if each byte is a name's. Assumes nothing.
-use Prim.Native.Nat.{◌≤◌, ◌-◌}
 use native.Mathlib.Omega.{arith}
-use mathlib.Core.Path.{◌≡◌, refl, sym, ◌∙◌}
-use lib.Seq.{slice}
-use borrow.Author.Rules.{rules}
-use Rattle.xml.specs.Bytes.{all, is_name_byte}
-use Rattle.xml.specs.SameTapes.{not-true, not-false}
+use mathlib.Core.Path.{refl, sym, ◌∙◌}
 use Rattle.keys.specs.Values.{value-short, value-long, value-names, names-stop, names_more, names-done}
 use Rattle.keys.proofs.keyed.is_value.Goals as goal
 
@@ -23,12 +18,12 @@ returns-then-not-is_name_byte c = let src = c.args.src.now in
     let i = c.loop-i.i in
     let e = c.args.e in
     sym (value-names src c.args.a e (omega arith) (omega arith) (omega arith) ∙ c.loop-i.invariant.2
-    ∙ names-stop src i e (omega arith) (omega arith) (sym c.is_name_byte.ensures ∙ not-true _ c.if-not-is_name_byte.true-raw))
+    ∙ names-stop src i e (omega arith) (omega arith) (sym c.is_name_byte.ensures ∙ c.if-not-is_name_byte.true))
 
 pub loop-i-preserved : goal.loop-i-preserved
 loop-i-preserved c = let src = c.args.src.now in
     let i = c.loop-i.i in
-    (omega arith, omega arith, c.loop-i.invariant.2 ∙ names_more src i c.args.e (omega arith) (omega arith) (sym c.is_name_byte.ensures ∙ not-false _ c.if-not-is_name_byte.false-raw))
+    (omega arith, omega arith, c.loop-i.invariant.2 ∙ names_more src i c.args.e (omega arith) (omega arith) (sym c.is_name_byte.ensures ∙ c.if-not-is_name_byte.false))
 
 pub returns : goal.returns
 returns c = let src = c.args.src.now in

@@ -2,19 +2,17 @@
 use native.Mathlib.Omega.{arith}
 use mathlib.Core.Path.{sym, ◌∙◌, subst}
 use mathlib.Core.Bool.{Bool}
-use borrow.Author.Tests.{not-true, not-false}
 use lib.Seq.{length-take-le}
 use Rattle.keys.specs.Loading.{Decides, Small}
 use Rattle.keys.proofs.LineParts.{keys-row, name-bounds}
 use Rattle.keys.proofs.AddLine.{too_many, no_line, not_new, has-T, not-small, context-placed, few-counted, line-room, line-added}
-use borrow.Author.Rules.{rules}
 use Rattle.keys.proofs.load.add_line.Goals as goal
 
 pub returns-then-lines-eq64 : goal.returns-then-lines-eq64
 returns-then-lines-eq64 c = too_many c.requires c.if-lines-eq64.true
 
 pub returns-then-not-is_line : goal.returns-then-not-is_line
-returns-then-not-is_line c = no_line c.requires (sym c.is_line.ensures ∙ not-true c.is_line.result c.if-not-is_line.true-raw)
+returns-then-not-is_line c = no_line c.requires (sym c.is_line.ensures ∙ c.if-not-is_line.true)
 
 pub slice_bounds-child-end : goal.slice_bounds-child-end
 slice_bounds-child-end c = sym (length-take-le c.args.at c.args.text.now c.requires.built.upto.within)
@@ -41,7 +39,7 @@ pub returns-then-not-is_small : goal.returns-then-not-is_small
 returns-then-not-is_small c = not-small c.requires c.row_len-keys.ensures (subst (λ (b : Bool). Decides b (Small c.args.here.depth c.row_len-keys.result c.args.n)) c.if-not-is_small.true c.is_small.ensures)
 
 pub put_line-requires : goal.put_line-requires
-put_line-requires c = line-room c.requires (sym c.is_line.ensures ∙ not-false c.is_line.result c.if-not-is_line.false-raw) c.child.ensures c.if-child-ne129.false (λ ns r. sym c.if-has_t.false ∙ c.has_t.ensures ns r) c.row_len-keys.ensures (subst (λ (b : Bool). Decides b (Small c.args.here.depth c.row_len-keys.result c.args.n)) c.if-not-is_small.false c.is_small.ensures)
+put_line-requires c = line-room c.requires (sym c.is_line.ensures ∙ c.if-not-is_line.false) c.child.ensures c.if-child-ne129.false (λ ns r. sym c.if-has_t.false ∙ c.has_t.ensures ns r) c.row_len-keys.ensures (subst (λ (b : Bool). Decides b (Small c.args.here.depth c.row_len-keys.result c.args.n)) c.if-not-is_small.false c.is_small.ensures)
 
 pub overflow_add-result : goal.overflow_add-result
 overflow_add-result c = omega (arith, c.requires.built.table.few)
@@ -50,4 +48,4 @@ pub overflow_add-result-2 : goal.overflow_add-result-2
 overflow_add-result-2 c = omega (arith, c.requires.built.table.few, few-counted c.requires c.row_len-keys.ensures)
 
 pub returns : goal.returns
-returns c = line-added c.requires (sym c.is_line.ensures ∙ not-false c.is_line.result c.if-not-is_line.false-raw) c.child.ensures c.if-child-ne129.false (λ ns r. sym c.if-has_t.false ∙ c.has_t.ensures ns r) c.row_len-keys.ensures (subst (λ (b : Bool). Decides b (Small c.args.here.depth c.row_len-keys.result c.args.n)) c.if-not-is_small.false c.is_small.ensures) c.if-lines-eq64.false c.put_line.ensures
+returns c = line-added c.requires (sym c.is_line.ensures ∙ c.if-not-is_line.false) c.child.ensures c.if-child-ne129.false (λ ns r. sym c.if-has_t.false ∙ c.has_t.ensures ns r) c.row_len-keys.ensures (subst (λ (b : Bool). Decides b (Small c.args.here.depth c.row_len-keys.result c.args.n)) c.if-not-is_small.false c.is_small.ensures) c.if-lines-eq64.false c.put_line.ensures

@@ -1,11 +1,9 @@
 -- `keys::measure::is_dropped` meets its contract: above a frontier, and white. Assumes nothing.
 use mathlib.Core.Path.{refl, sym, ◌∙◌}
-use borrow.Author.Tests.{not-true, not-false}
-use borrow.Author.Rules.{rules}
 use Rattle.keys.proofs.measure.is_dropped.Goals as goal
 
 pub returns-then-not-is_above : goal.returns-then-not-is_above
-returns-then-not-is_above c text K p t e = rw (sym (c.is_above.ensures text K p t e) ∙ not-true _ c.if-not-is_above.true-raw) refl
+returns-then-not-is_above c text K p t e = rw (sym (c.is_above.ensures text K p t e) ∙ c.if-not-is_above.true) refl
 
 pub returns : goal.returns
-returns c text K p t e = rw (sym (c.is_above.ensures text K p t e) ∙ not-false _ c.if-not-is_above.false-raw) c.is_white.ensures
+returns c text K p t e = rw (sym (c.is_above.ensures text K p t e) ∙ c.if-not-is_above.false) c.is_white.ensures

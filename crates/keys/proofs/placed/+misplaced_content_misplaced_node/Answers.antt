@@ -3,14 +3,13 @@
 use native.Mathlib.Omega.{arith}
 use mathlib.Core.Path.{ap, sym, ◌∙◌}
 use mathlib.Core.Bool.{not}
-use borrow.Author.Tests.{not-true, not-false}
 use Rattle.xml.specs.Read.{unescape}
 use Rattle.xml.specs.Tape.{next_at}
 use Rattle.xml.specs.TapeLaws.{bytes_at, text-node, inner-node}
 use Rattle.keys.specs.Version.{◌▸◌}
-use Rattle.keys.specs.Walks.{Walk, OfNodes, walk-front, walk-node, walk-next, walk-kids, Going, going_start, going_more, going-found, going_done}
+use Rattle.keys.specs.Walks.{Walk, walk-front, walk-node, walk-next, walk-kids, going_start, going_more, going-found, going_done}
 use Rattle.keys.specs.Strays.{astray, astray-end, astray-under, astray-run, astray-other, astray-strange, astray-inside, astray-here, astray-past}
-use Prim.Native.Nat.{ℕ, ◌+◌, ◌*◌, ◌-◌, ◌<◌, ◌≤◌}
+use Prim.Native.Nat.{◌+◌}
 use Rattle.keys.proofs.placed.+misplaced_content_misplaced_node.Goals as goal
 
 pub misplaced_content-loop-p-init : goal.misplaced_content-loop-p-init
@@ -50,7 +49,7 @@ misplaced_node-is_above-requires t c = c.requires.1.placed.table.held
 pub misplaced_node-returns-then-not-is_above : goal.misplaced_node-returns-then-not-is_above
 misplaced_node-returns-then-not-is_above t c K q s e f h = let b = unescape 0 (bytes_at c.args.src.now c.args.tape.now c.args.p) in
     let k = rw c.view_at-v.ensures at c.if-v-eq0.true in
-    sym (astray-under K q b (text-node h c.requires.0 k) (sym (c.is_above.ensures c.args.text.now K q s e) ∙ not-true _ c.if-not-is_above.true-raw))
+    sym (astray-under K q b (text-node h c.requires.0 k) (sym (c.is_above.ensures c.args.text.now K q s e) ∙ c.if-not-is_above.true))
 
 pub misplaced_node-is_white-requires : goal.misplaced_node-is_white-requires
 misplaced_node-is_white-requires t c = rw c.view_at-v.ensures (omega (arith, (walk-front c.requires.1 c.requires.0).within))
@@ -59,7 +58,7 @@ pub misplaced_node-returns-then-v-eq0 : goal.misplaced_node-returns-then-v-eq0
 misplaced_node-returns-then-v-eq0 t c K q s e f h = let b = unescape 0 (bytes_at c.args.src.now c.args.tape.now c.args.p) in
     let k = rw c.view_at-v.ensures at c.if-v-eq0.true in
     ap not (rw c.view_at-v.ensures at c.is_white.ensures)
-    ∙ sym (astray-run K q b (text-node h c.requires.0 k) (sym (c.is_above.ensures c.args.text.now K q s e) ∙ not-false _ c.if-not-is_above.false-raw))
+    ∙ sym (astray-run K q b (text-node h c.requires.0 k) (sym (c.is_above.ensures c.args.text.now K q s e) ∙ c.if-not-is_above.false))
 
 pub misplaced_node-returns-then-v-ne1 : goal.misplaced_node-returns-then-v-ne1
 misplaced_node-returns-then-v-ne1 t c K q s e f h = let v = c.view_at-v.ensures in

@@ -1,13 +1,12 @@
-use Prim.Native.Nat.{◌-◌, ◌≤◌}
+use Prim.Native.Nat.{◌≤◌}
 use native.Mathlib.Omega.{arith}
-use mathlib.Core.Path.{◌≡◌, refl, sym, ◌∙◌, ap}
-use mathlib.Core.Bool.{true, false}
-use borrow.Author.Tests.{not-true, not-false}
+use mathlib.Core.Path.{◌≡◌, sym, ◌∙◌}
+use mathlib.Core.Bool.{true}
 use lib.Seq.{slice}
 use Rattle.keys.specs.KeyList.{above}
 use Rattle.keys.specs.Placed.{OfPlace}
 use Rattle.keys.specs.Places.{first_below}
-use Rattle.keys.specs.TableLaws.{table-first, NoChild, search-starts, search-goes, search-shut, search-finds, search-ends}
+use Rattle.keys.specs.TableLaws.{table-first, search-starts, search-goes, search-shut, search-finds, search-ends}
 use Rattle.keys.proofs.places.child.Goals as goal
 
 -- src/places.rt:102:9
@@ -21,14 +20,14 @@ returns-then-not-is_above c = search-shut c.args.text.now c.args.table.now c.arg
 -- src/places.rt:105:17
 pub first_below-i-requires : goal.first_below-i-requires
 first_below-i-requires c =
-    let inner : OfPlace c.args.text.now c.args.table.now c.args.n c.args.place (λ K p. true ≡ above K p) = λ K p t e. sym (not-false c.is_above.result c.if-not-is_above.false-raw) ∙ c.is_above.ensures _ K p t e in
+    let inner : OfPlace c.args.text.now c.args.table.now c.args.n c.args.place (λ K p. true ≡ above K p) = λ K p t e. sym (c.if-not-is_above.false) ∙ c.is_above.ensures _ K p t e in
     let first : (c.args.place ≤ 128) × (first_below c.args.place ≤ c.args.n) = let h = c.requires.0 in table-first h.table h.path c.args.place h.place_is (sym (inner h.key_list h.path h.table h.place_is)) in
     first.0
 
 -- src/places.rt:106:5
 pub loop-i-init : goal.loop-i-init
 loop-i-init c =
-    let inner : OfPlace c.args.text.now c.args.table.now c.args.n c.args.place (λ K p. true ≡ above K p) = λ K p t e. sym (not-false c.is_above.result c.if-not-is_above.false-raw) ∙ c.is_above.ensures _ K p t e in
+    let inner : OfPlace c.args.text.now c.args.table.now c.args.n c.args.place (λ K p. true ≡ above K p) = λ K p t e. sym (c.if-not-is_above.false) ∙ c.is_above.ensures _ K p t e in
     let first : (c.args.place ≤ 128) × (first_below c.args.place ≤ c.args.n) = let h = c.requires.0 in table-first h.table h.path c.args.place h.place_is (sym (inner h.key_list h.path h.table h.place_is)) in
     (omega (arith, first.1, c.first_below-i.ensures), search-starts c.args.text.now c.args.table.now c.args.n c.args.place (slice c.args.a c.args.e c.args.src.now) c.first_below-i.result c.first_below-i.ensures inner)
 
@@ -39,7 +38,7 @@ is_child-requires c = let w = (c.requires.0.table.entry c.loop-i.i (omega arith)
 -- src/places.rt:108:13
 pub returns-then-is_child : goal.returns-then-is_child
 returns-then-is_child c =
-    let inner : OfPlace c.args.text.now c.args.table.now c.args.n c.args.place (λ K p. true ≡ above K p) = λ K p t e. sym (not-false c.is_above.result c.if-not-is_above.false-raw) ∙ c.is_above.ensures _ K p t e in
+    let inner : OfPlace c.args.text.now c.args.table.now c.args.n c.args.place (λ K p. true ≡ above K p) = λ K p t e. sym (c.if-not-is_above.false) ∙ c.is_above.ensures _ K p t e in
     search-finds c.args.text.now c.args.table.now c.args.n c.args.place (slice c.args.a c.args.e c.args.src.now) c.loop-i.i (omega arith) c.loop-i.invariant.1 inner (sym c.is_child.ensures ∙ c.if-is_child.true)
 
 -- src/places.rt:110:9

@@ -4,7 +4,6 @@ use mathlib.Core.Path.{◌≡◌, sym, ◌∙◌, ap}
 use mathlib.Core.List.{[]}
 use Rattle.xml.specs.Forest.{Forest}
 use Rattle.xml.specs.Tape.{Tape}
-use Rattle.xml.specs.SameTapes.{not-true, not-false}
 use Rattle.keys.specs.KeyList.{KeyList}
 use Rattle.keys.specs.PlaceLaws.{place-root}
 use Rattle.keys.specs.Table.{Table}
@@ -13,7 +12,6 @@ use Rattle.versions.specs.Walk.{siblings_legal}
 use Rattle.versions.specs.AddParts.{Holds}
 use Rattle.versions.specs.TimedLaws.{up-to-holds}
 use Rattle.versions.specs.LegalWhole.{inside-many, inside-unlawful, inside-rest, inside-walk}
-use borrow.Author.Rules.{rules}
 use Rattle.legality.proofs.open.inside_legal.Goals as goal
 
 pub returns-then-count_nodes-gt1024 : goal.returns-then-count_nodes-gt1024
@@ -28,7 +26,7 @@ pub returns-then-not-siblings_legal : goal.returns-then-not-siblings_legal
 returns-then-not-siblings_legal c K t k x =
     let every : Holds c.args.n c.up_to-all.result.words (always c.args.n) = up-to-holds c.args.n c.up_to-all.ensures in
     let said : (K : KeyList) → Table c.args.text.now c.args.table.now c.args.paths K → (k : Forest) → Tape c.args.src.now c.args.tape.now 1 c.args.hi k → c.siblings_legal.result ≡ siblings_legal K c.args.n [] (always c.args.n) k = λ K t k x. c.siblings_legal.ensures K [] t (place-root K) k x ∙ ap (λ (z : Times). siblings_legal K c.args.n [] z k) (every).listed-is in
-    sym (inside-unlawful K c.args.n k (sym (said K t k x) ∙ not-true _ c.if-not-siblings_legal.true-raw))
+    sym (inside-unlawful K c.args.n k (sym (said K t k x) ∙ c.if-not-siblings_legal.true))
 
 pub all_small-requires : goal.all_small-requires
 all_small-requires c =
@@ -52,4 +50,4 @@ returns c K t k x =
     let said : (K : KeyList) → Table c.args.text.now c.args.table.now c.args.paths K → (k : Forest) → Tape c.args.src.now c.args.tape.now 1 c.args.hi k → c.siblings_legal.result ≡ siblings_legal K c.args.n [] (always c.args.n) k = λ K t k x. c.siblings_legal.ensures K [] t (place-root K) k x ∙ ap (λ (z : Times). siblings_legal K c.args.n [] z k) (every).listed-is in
     c.all_small.ensures k x
     ∙ sym (inside-rest K c.args.n k (omega (arith, c.count_nodes.ensures k x, c.if-count_nodes-gt1024.false))
-    (sym (said K t k x) ∙ not-false _ c.if-not-siblings_legal.false-raw))
+    (sym (said K t k x) ∙ c.if-not-siblings_legal.false))

@@ -7,7 +7,6 @@ use Rattle.timestamp.specs.Set.{set_of}
 use Rattle.timestamp.specs.First.{first-low, first-high}
 use Rattle.versions.specs.Branches.{outcome-refused, outcome-accepted}
 use Rattle.versions.specs.OuterTimes.{outer-refused, outer-other, outer_same}
-use borrow.Author.Rules.{rules}
 use Rattle.legality.proofs.open.outer_last.Goals as goal
 
 pub returns-then-not-read : goal.returns-then-not-read
@@ -26,9 +25,9 @@ up_to-requires c =
 pub returns-then-not-same : goal.returns-then-not-same
 returns-then-not-same c = sym (outer-other _ (set_of c.times_at-read.result.stamp.words) (set_of c.complement-gaps.result.words)
     (outcome-accepted c.times_at-read.result _ c.times_at-read.ensures (not-false _ c.if-not-read.false)) c.complement-gaps.ensures (c.next-n.result - 1) (ap (λ (x : ℕ). x - 1) c.next-n.ensures)
-    (sym (rw c.up_to.ensures at c.same.ensures) ∙ not-true _ c.if-not-same.true-raw))
+    (sym (rw c.up_to.ensures at c.same.ensures) ∙ c.if-not-same.true))
 
 pub returns : goal.returns
 returns c = sym (outer_same _ (set_of c.times_at-read.result.stamp.words) (set_of c.complement-gaps.result.words)
     (outcome-accepted c.times_at-read.result _ c.times_at-read.ensures (not-false _ c.if-not-read.false)) c.complement-gaps.ensures (c.next-n.result - 1) (ap (λ (x : ℕ). x - 1) c.next-n.ensures)
-    (sym (rw c.up_to.ensures at c.same.ensures) ∙ not-false _ c.if-not-same.false-raw))
+    (sym (rw c.up_to.ensures at c.same.ensures) ∙ c.if-not-same.false))

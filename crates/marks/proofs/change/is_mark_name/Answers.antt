@@ -1,9 +1,6 @@
-use Prim.Native.Nat.{◌-◌, ◌≤◌}
 use native.Mathlib.Omega.{arith}
-use mathlib.Core.Path.{◌≡◌, refl, sym, ◌∙◌}
-use borrow.Author.Tests.{not-true, not-false}
-use lib.ListN.{length, drop}
-use Rattle.xml.specs.Bytes.{all, is_name_byte}
+use mathlib.Core.Path.{refl, sym, ◌∙◌}
+use Rattle.xml.specs.Bytes.{is_name_byte}
 use Rattle.marks.specs.JudgeLaws.{all-next, all-stop, all-over}
 use Rattle.marks.specs.ChangeLaws.{name-empty, name-too-long, name-bytes}
 use Rattle.marks.proofs.change.is_mark_name.Goals as goal
@@ -24,7 +21,7 @@ pub is_name_byte-requires : goal.is_name_byte-requires
 is_name_byte-requires c = tt
 
 pub returns-then-not-is_name_byte : goal.returns-then-not-is_name_byte
-returns-then-not-is_name_byte c = let s = c.args.name.now in sym (name-bytes s c.if-name-lt1.false c.if-name-gt16.false ∙ c.loop-i.invariant.1 ∙ all-stop is_name_byte s c.loop-i.i 0 (omega arith) (sym c.is_name_byte.ensures ∙ not-true c.is_name_byte.result c.if-not-is_name_byte.true-raw))
+returns-then-not-is_name_byte c = let s = c.args.name.now in sym (name-bytes s c.if-name-lt1.false c.if-name-gt16.false ∙ c.loop-i.invariant.1 ∙ all-stop is_name_byte s c.loop-i.i 0 (omega arith) (sym c.is_name_byte.ensures ∙ c.if-not-is_name_byte.true))
 
 pub overflow_add-i : goal.overflow_add-i
 overflow_add-i c = omega arith
@@ -33,7 +30,7 @@ pub loop-i-smaller : goal.loop-i-smaller
 loop-i-smaller c = omega arith
 
 pub loop-i-preserved : goal.loop-i-preserved
-loop-i-preserved c = let s = c.args.name.now in (omega arith, c.loop-i.invariant.1 ∙ all-next is_name_byte s c.loop-i.i 0 (omega arith) (sym c.is_name_byte.ensures ∙ not-false c.is_name_byte.result c.if-not-is_name_byte.false-raw))
+loop-i-preserved c = let s = c.args.name.now in (omega arith, c.loop-i.invariant.1 ∙ all-next is_name_byte s c.loop-i.i 0 (omega arith) (sym c.is_name_byte.ensures ∙ c.if-not-is_name_byte.false))
 
 pub returns : goal.returns
 returns c = let s = c.args.name.now in sym (name-bytes s c.if-name-lt1.false c.if-name-gt16.false ∙ c.loop-i.invariant.1 ∙ all-over is_name_byte s c.loop-i.i (omega arith))

@@ -1,13 +1,9 @@
-use borrow.Author.Rules.{rules}
-use Prim.Native.Nat.{◌-◌, ◌≤◌}
 use native.Mathlib.Omega.{arith}
 use mathlib.Core.Path.{◌≡◌, refl, sym, ◌∙◌}
-use borrow.Author.Tests.{not-true, not-false}
-use lib.ListN.{length, drop}
-use Rattle.xml.specs.Bytes.{all}
+use lib.ListN.{length}
 use Rattle.marks.specs.Marks.{same_mark, unused}
 use Rattle.marks.specs.Lent.{past}
-use Rattle.marks.specs.JudgeLaws.{sized, all-next, all-stop, all-over}
+use Rattle.marks.specs.JudgeLaws.{all-next, all-stop, all-over}
 use Rattle.marks.proofs.judge.are_unused.Goals as goal
 
 pub loop-i-init : goal.loop-i-init
@@ -22,7 +18,7 @@ bounds-t-i c = omega arith
 pub returns-then-not-is_unused : goal.returns-then-not-is_unused
 returns-then-not-is_unused c = let t = c.args.t in
     let h : length t.held ≡ 32 = c.well_formed.0.1.1.0.1.0.1 in
-    sym (c.loop-i.invariant.2 ∙ all-stop (same_mark unused) t.held c.loop-i.i past (omega arith) (sym c.is_unused.ensures ∙ not-true c.is_unused.result c.if-not-is_unused.true-raw))
+    sym (c.loop-i.invariant.2 ∙ all-stop (same_mark unused) t.held c.loop-i.i past (omega arith) (sym c.is_unused.ensures ∙ c.if-not-is_unused.true))
 
 pub overflow_add-i : goal.overflow_add-i
 overflow_add-i c = omega arith
@@ -33,7 +29,7 @@ loop-i-smaller c = omega arith
 pub loop-i-preserved : goal.loop-i-preserved
 loop-i-preserved c = let t = c.args.t in
     let h : length t.held ≡ 32 = c.well_formed.0.1.1.0.1.0.1 in
-    (omega arith, omega arith, c.loop-i.invariant.2 ∙ all-next (same_mark unused) t.held c.loop-i.i past (omega arith) (sym c.is_unused.ensures ∙ not-false c.is_unused.result c.if-not-is_unused.false-raw))
+    (omega arith, omega arith, c.loop-i.invariant.2 ∙ all-next (same_mark unused) t.held c.loop-i.i past (omega arith) (sym c.is_unused.ensures ∙ c.if-not-is_unused.false))
 
 pub returns : goal.returns
 returns c = let t = c.args.t in

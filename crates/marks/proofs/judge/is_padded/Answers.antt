@@ -1,10 +1,7 @@
-use borrow.Author.Tests.{not-true, not-false}
-use Prim.Native.Nat.{◌-◌, ◌≤◌}
 use native.Mathlib.Omega.{arith}
 use mathlib.Core.Path.{◌≡◌, sym, ◌∙◌}
 use borrow.Author.Rules.{rules}
-use lib.ListN.{length, drop}
-use Rattle.marks.specs.Judging.{padded}
+use lib.ListN.{length}
 use Rattle.marks.specs.JudgeLaws.{padded-next, padded-stop, padded-start, padded-over}
 use Rattle.marks.proofs.judge.is_padded.Goals as goal
 
@@ -20,7 +17,7 @@ is_right-requires c = tt
 pub returns-then-not-is_right : goal.returns-then-not-is_right
 returns-then-not-is_right c = let a = c.args in
     let h : length a.m.name ≡ 16 = search rules in
-    sym (c.loop-j.invariant.1 ∙ padded-stop a.k c.loop-j.j a.m.name (omega arith) (sym c.is_right.ensures ∙ not-true c.is_right.result c.if-not-is_right.true-raw))
+    sym (c.loop-j.invariant.1 ∙ padded-stop a.k c.loop-j.j a.m.name (omega arith) (sym c.is_right.ensures ∙ c.if-not-is_right.true))
 
 pub overflow_add-j : goal.overflow_add-j
 overflow_add-j c = omega arith
@@ -31,7 +28,7 @@ loop-j-smaller c = omega arith
 pub loop-j-preserved : goal.loop-j-preserved
 loop-j-preserved c = let a = c.args in
     let h : length a.m.name ≡ 16 = search rules in
-    (omega arith, c.loop-j.invariant.1 ∙ padded-next a.k c.loop-j.j a.m.name (omega arith) (sym c.is_right.ensures ∙ not-false c.is_right.result c.if-not-is_right.false-raw))
+    (omega arith, c.loop-j.invariant.1 ∙ padded-next a.k c.loop-j.j a.m.name (omega arith) (sym c.is_right.ensures ∙ c.if-not-is_right.false))
 
 pub returns : goal.returns
 returns c = let a = c.args in

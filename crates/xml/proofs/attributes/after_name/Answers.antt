@@ -2,8 +2,6 @@
 use Prim.Native.Nat.{◌+◌}
 use native.Mathlib.Omega.{arith}
 use mathlib.Core.Path.{sym, ◌∙◌}
-use borrow.Author.Rules.{rules}
-use borrow.Author.Tests.{not-true, not-false}
 use lib.ListN.{drop, length-drop}
 use Rattle.xml.specs.AttrPlaces.{new-unnamed, new-unquoted, new-stops, new-goes, name_in_lem, quote-here, value_in_lem}
 use Rattle.xml.specs.declared.Run.TheVariants.{Upto, Stop}
@@ -28,7 +26,7 @@ pub overflow_add-result-then-not-is_quote : goal.overflow_add-result-then-not-is
 overflow_add-result-then-not-is_quote c = omega (arith, name_in_lem c.args.src.now c.args.at c.args.m c.requires.0 c.requires.2)
 
 pub returns-then-not-is_quote : goal.returns-then-not-is_quote
-returns-then-not-is_quote c = λ used h. sym (new-unquoted used c.args.src.now c.args.at c.args.m c.requires.2 h (sym c.byte_at.ensures ∙ c.if-byte_at-ne61.false) c.byte_at-q.result c.byte_at-q.ensures (sym c.is_quote.ensures ∙ not-true _ c.if-not-is_quote.true-raw))
+returns-then-not-is_quote c = λ used h. sym (new-unquoted used c.args.src.now c.args.at c.args.m c.requires.2 h (sym c.byte_at.ensures ∙ c.if-byte_at-ne61.false) c.byte_at-q.result c.byte_at-q.ensures (sym c.is_quote.ensures ∙ c.if-not-is_quote.true))
 
 pub overflow_add-at-4 : goal.overflow_add-at-4
 overflow_add-at-4 c = omega (arith, name_in_lem c.args.src.now c.args.at c.args.m c.requires.0 c.requires.2)
@@ -37,7 +35,7 @@ pub overflow_add-at-5 : goal.overflow_add-at-5
 overflow_add-at-5 c = omega (arith, name_in_lem c.args.src.now c.args.at c.args.m c.requires.0 c.requires.2)
 
 pub value_run-requires : goal.value_run-requires
-value_run-requires c = let h = quote-here c.args.src.now (c.args.at + c.args.m + 1) c.byte_at-q.result c.byte_at-q.ensures (sym c.is_quote.ensures ∙ not-false _ c.if-not-is_quote.false-raw) in omega arith
+value_run-requires c = let h = quote-here c.args.src.now (c.args.at + c.args.m + 1) c.byte_at-q.result c.byte_at-q.ensures (sym c.is_quote.ensures ∙ c.if-not-is_quote.false) in omega arith
 
 pub overflow_add-result-in-Upto : goal.overflow_add-result-in-Upto
 overflow_add-result-in-Upto c = omega (arith, name_in_lem c.args.src.now c.args.at c.args.m c.requires.0 c.requires.2)
@@ -53,10 +51,10 @@ overflow_add-result-in-Stop-2 c = omega (arith, name_in_lem c.args.src.now c.arg
 
 pub returns-in-Upto : goal.returns-in-Upto
 returns-in-Upto c = λ used h.
-    sym (new-goes used c.args.src.now c.args.at c.args.m c.requires.2 h (sym c.byte_at.ensures ∙ c.if-byte_at-ne61.false) c.byte_at-q.result c.byte_at-q.ensures (sym c.is_quote.ensures ∙ not-false _ c.if-not-is_quote.false-raw) c.in-Upto.n
+    sym (new-goes used c.args.src.now c.args.at c.args.m c.requires.2 h (sym c.byte_at.ensures ∙ c.if-byte_at-ne61.false) c.byte_at-q.result c.byte_at-q.ensures (sym c.is_quote.ensures ∙ c.if-not-is_quote.false) c.in-Upto.n
     (sym c.value_run.ensures ∙ c.in-Upto.is))
 
 pub returns-in-Stop : goal.returns-in-Stop
 returns-in-Stop c = λ used h.
-    sym (new-stops used c.args.src.now c.args.at c.args.m c.requires.2 h (sym c.byte_at.ensures ∙ c.if-byte_at-ne61.false) c.byte_at-q.result c.byte_at-q.ensures (sym c.is_quote.ensures ∙ not-false _ c.if-not-is_quote.false-raw) c.in-Stop.n
+    sym (new-stops used c.args.src.now c.args.at c.args.m c.requires.2 h (sym c.byte_at.ensures ∙ c.if-byte_at-ne61.false) c.byte_at-q.result c.byte_at-q.ensures (sym c.is_quote.ensures ∙ c.if-not-is_quote.false) c.in-Stop.n
     (sym c.value_run.ensures ∙ c.in-Stop.is))

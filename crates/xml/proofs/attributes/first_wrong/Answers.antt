@@ -3,8 +3,6 @@ use native.Mathlib.Omega.{arith}
 use Prim.Native.Nat.{ℕ, ◌+◌}
 use mathlib.Core.Path.{ap, sym, ◌∙◌}
 use mathlib.Core.List.{[]}
-use borrow.Author.Rules.{rules}
-use borrow.Author.Tests.{not-true, not-false}
 use lib.ListN.{drop, length-drop}
 use Rattle.xml.specs.Fresh.{fresh_len-fits}
 use Rattle.xml.specs.AttrPlaces.{named-never, named-old}
@@ -12,7 +10,7 @@ use Rattle.xml.specs.declared.Next.TheVariants.{Off}
 use Rattle.xml.proofs.attributes.first_wrong.Goals as goal
 
 pub returns-then-not-is_fresh : goal.returns-then-not-is_fresh
-returns-then-not-is_fresh c = λ used h. sym (named-never used (drop c.args.at c.args.src.now) (sym (c.is_fresh.ensures used h) ∙ not-true _ c.if-not-is_fresh.true-raw))
+returns-then-not-is_fresh c = λ used h. sym (named-never used (drop c.args.at c.args.src.now) (sym (c.is_fresh.ensures used h) ∙ c.if-not-is_fresh.true))
 
 pub overflow_add-result : goal.overflow_add-result
 overflow_add-result c = let used = c.requires.0.used in
@@ -21,4 +19,4 @@ overflow_add-result c = let used = c.requires.0.used in
 pub returns : goal.returns
 returns c = λ used h.
     ap (λ (n : ℕ). Off (1 + n)) (c.new_len.ensures used h)
-    ∙ sym (named-old used (drop c.args.at c.args.src.now) (sym (c.is_fresh.ensures used h) ∙ not-false _ c.if-not-is_fresh.false-raw) (c.requires.3 used h))
+    ∙ sym (named-old used (drop c.args.at c.args.src.now) (sym (c.is_fresh.ensures used h) ∙ c.if-not-is_fresh.false) (c.requires.3 used h))

@@ -7,8 +7,6 @@ use Rattle.xml.specs.ScanLaws.{found_len, entity-fits}
 use Rattle.xml.specs.Values.{value-over, value-hit, value-miss, value-kept, value-off}
 use Rattle.xml.specs.ValueBytes.{in-plain, in-less, in-other}
 use Rattle.xml.specs.declared.Found.{Found}
-use borrow.Author.Rules.{rules}
-use borrow.Author.Tests.{not-true, not-false}
 use Rattle.xml.proofs.attributes.value_byte.Goals as goal
 
 pub returns-then-b-q : goal.returns-then-b-q
@@ -31,9 +29,9 @@ returns-then-b-eq60 c = let b = get_or c.args.src.now c.args.at 0 in
 
 pub returns-then-not-is_printed : goal.returns-then-not-is_printed
 returns-then-not-is_printed c = let b = get_or c.args.src.now c.args.at 0 in
-    sym (value-off c.args.q b (drop (c.args.at + 1) c.args.src.now) c.if-b-q.false c.if-b-eq38.false (in-other c.args.q b (sym c.is_printed.ensures ∙ not-true _ c.if-not-is_printed.true-raw)))
+    sym (value-off c.args.q b (drop (c.args.at + 1) c.args.src.now) c.if-b-q.false c.if-b-eq38.false (in-other c.args.q b (sym c.is_printed.ensures ∙ c.if-not-is_printed.true)))
 
 pub returns : goal.returns
 returns c = let b = get_or c.args.src.now c.args.at 0 in
     sym (value-kept c.args.q b (drop (c.args.at + 1) c.args.src.now) c.if-b-q.false c.if-b-eq38.false
-    (in-plain c.args.q b (sym c.is_printed.ensures ∙ not-false _ c.if-not-is_printed.false-raw) c.if-b-eq60.false c.if-b-eq38.false c.if-b-q.false))
+    (in-plain c.args.q b (sym c.is_printed.ensures ∙ c.if-not-is_printed.false) c.if-b-eq60.false c.if-b-eq38.false c.if-b-q.false))

@@ -1,12 +1,6 @@
 -- `xml::compare::is_white` meets its contract: what the run means is white where its raw bytes from i on are. Assumes nothing.
-use Prim.Native.Nat.{◌-◌, ◌≤◌}
 use native.Mathlib.Omega.{arith}
 use mathlib.Core.Path.{◌≡◌, sym, ◌∙◌}
-use borrow.Author.Rules.{rules}
-use borrow.Author.Tests.{not-true, not-false}
-use lib.Seq.{slice}
-use Rattle.xml.specs.Bytes.{all, is_white}
-use Rattle.xml.specs.Read.{unescape}
 use Rattle.xml.specs.CompareLaws.{white-meant, white-more, white-other, white-over}
 use Rattle.xml.proofs.compare.is_white.Goals as goal
 
@@ -18,7 +12,7 @@ bounds-src-i c = omega arith
 
 pub returns-then-not-is_white_byte : goal.returns-then-not-is_white_byte
 returns-then-not-is_white_byte c = let a = c.args in
-    sym (c.loop-i.invariant.2 ∙ white-other a.src.now c.loop-i.i a.e (omega arith) (omega arith) (sym c.is_white_byte.ensures ∙ not-true c.is_white_byte.result c.if-not-is_white_byte.true-raw))
+    sym (c.loop-i.invariant.2 ∙ white-other a.src.now c.loop-i.i a.e (omega arith) (omega arith) (sym c.is_white_byte.ensures ∙ c.if-not-is_white_byte.true))
 
 pub overflow_add-i : goal.overflow_add-i
 overflow_add-i c = omega arith
@@ -28,7 +22,7 @@ loop-i-smaller c = omega arith
 
 pub loop-i-preserved : goal.loop-i-preserved
 loop-i-preserved c = let a = c.args in
-    (omega arith, omega arith, c.loop-i.invariant.2 ∙ white-more a.src.now c.loop-i.i a.e (omega arith) (omega arith) (sym c.is_white_byte.ensures ∙ not-false c.is_white_byte.result c.if-not-is_white_byte.false-raw))
+    (omega arith, omega arith, c.loop-i.invariant.2 ∙ white-more a.src.now c.loop-i.i a.e (omega arith) (omega arith) (sym c.is_white_byte.ensures ∙ c.if-not-is_white_byte.false))
 
 pub returns : goal.returns
 returns c = let a = c.args in

@@ -1,10 +1,10 @@
 -- `xml::compare::same_nodes` meets its contract: the nodes passed agree; where two do not, the forests differ (SameTapes). Assumes nothing.
-use Prim.Native.Nat.{◌+◌, ◌-◌, ◌<◌, ◌≤◌}
+use Prim.Native.Nat.{◌<◌}
 use native.Mathlib.Omega.{arith}
 use mathlib.Core.Path.{◌≡◌, sym, ◌∙◌}
 use Rattle.xml.specs.BytesLaws.{same-is}
 use Rattle.xml.specs.TapeLaws.{tape-le}
-use Rattle.xml.specs.SameTapes.{At, tape-at, Agree, agree-more, apart, apart-size, together, same_not, not-true, not-false}
+use Rattle.xml.specs.SameTapes.{At, tape-at, agree-more, apart, apart-size, together, same_not}
 use Rattle.xml.proofs.compare.same_nodes.Goals as goal
 
 pub overflow_sub-hi1 : goal.overflow_sub-hi1
@@ -59,7 +59,7 @@ same_meaning-requires c =
 
 pub returns-then-not-same_meaning : goal.returns-then-not-same_meaning
 returns-then-not-same_meaning c f g x y = let test = rw (c.view_at-v.ensures, c.view_at-w.ensures) at c.same_meaning.ensures in
-    sym (apart x y c.loop-i.i c.loop-i.j c.loop-i.invariant.0 c.loop-i-test.true c.loop-i.invariant.2 c.loop-i.invariant.3 (λ a. same_not _ _ (sym test ∙ not-true _ c.if-not-same_meaning.true-raw) a.says))
+    sym (apart x y c.loop-i.i c.loop-i.j c.loop-i.invariant.0 c.loop-i-test.true c.loop-i.invariant.2 c.loop-i.invariant.3 (λ a. same_not _ _ (sym test ∙ c.if-not-same_meaning.true) a.says))
 
 pub overflow_add-i : goal.overflow_add-i
 overflow_add-i c =
@@ -84,7 +84,7 @@ loop-i-preserved c = let v = c.view_at-v.ensures in
       omega (arith, c.loop-i.invariant.2),
       omega (arith, c.loop-i.invariant.3),
       agree-more c.loop-i.i c.loop-i.j c.loop-i.invariant.2 c.loop-i.invariant.3 c.loop-i.invariant.4
-          (record { kind = rw (v, w) at c.if-v-w.false; far = rw (v, w) at c.if-v-i.false; says = same-is _ _ (sym test ∙ not-false _ c.if-not-same_meaning.false-raw) }),
+          (record { kind = rw (v, w) at c.if-v-w.false; far = rw (v, w) at c.if-v-i.false; says = same-is _ _ (sym test ∙ c.if-not-same_meaning.false) }),
     )
 
 pub returns : goal.returns

@@ -2,12 +2,10 @@
 -- Assumes nothing.
 use mathlib.Core.Path.{◌≡◌, sym, ◌∙◌, ap}
 use mathlib.Core.Bool.{true}
-use mathlib.Core.Logic.{⊎_elim}
-use Prim.Native.Nat.{ℕ, ◌+◌, ◌-◌, ◌<◌, ◌≤◌}
+use Prim.Native.Nat.{ℕ, ◌+◌, ◌-◌, ◌<◌}
 use native.Mathlib.Nat.{add-zero, zero-add}
 use native.Mathlib.Omega.{arith}
-use borrow.Author.Rules.{rules}
-use borrow.Author.Tests.{ltb-true, ltb-false, not-true, not-false}
+use borrow.Author.Tests.{ltb-true, ltb-false}
 use lib.Dec.{ltb}
 use lib.ListN.{length, drop, get_or}
 use Rattle.xml.specs.Bytes.{is_name_byte}
@@ -36,7 +34,7 @@ returns-then-not-is_name_byte c = let src = c.args.src.now in
     let n = c.loop-n.n in
     let k = c.is_name_byte in
     let h : at + n < length src = omega (arith, c.least-count.ensures) in
-    omega (arith, name_rest-stop src (at + n) (31 - n) h (sym k.ensures ∙ not-true k.result c.if-not-is_name_byte.true-raw))
+    omega (arith, name_rest-stop src (at + n) (31 - n) h (sym k.ensures ∙ c.if-not-is_name_byte.true))
 
 pub overflow_add-n : goal.overflow_add-n
 overflow_add-n c = omega arith

@@ -1,12 +1,7 @@
 -- `xml::scan::plain_bytes` meets its contract. The invariant: it holds of the place reached. Assumes nothing.
-use Prim.Native.Nat.{◌-◌}
 use native.Mathlib.Omega.{arith}
 use mathlib.Core.Path.{sym, ◌∙◌}
-use mathlib.Core.Bool.{true}
-use borrow.Author.Rules.{rules}
-use borrow.Author.Tests.{not-false}
-use Rattle.xml.specs.ByteTests.{is_plain}
-use Rattle.xml.specs.Stretch.{Passed, passed_none, passed-more}
+use Rattle.xml.specs.Stretch.{passed_none, passed-more}
 use Rattle.xml.proofs.scan.plain_bytes.Goals as goal
 
 pub loop-j-init : goal.loop-j-init
@@ -25,7 +20,7 @@ pub loop-j-smaller : goal.loop-j-smaller
 loop-j-smaller c = omega arith
 
 pub loop-j-preserved : goal.loop-j-preserved
-loop-j-preserved c = passed-more c.loop-j.invariant (sym c.is_plain.ensures ∙ not-false c.is_plain.result c.if-not-is_plain.false-raw) (omega arith)
+loop-j-preserved c = passed-more c.loop-j.invariant (sym c.is_plain.ensures ∙ c.if-not-is_plain.false) (omega arith)
 
 pub returns : goal.returns
 returns c = c.loop-j.invariant

@@ -2,19 +2,17 @@
 use Prim.Native.Nat.{◌+◌}
 use mathlib.Core.Path.{sym, ◌∙◌}
 use native.Mathlib.Omega.{arith}
-use borrow.Author.Tests.{not-true, not-false}
 use lib.ListN.{drop, length-drop}
 use lib.Seq.{slice}
-use borrow.Author.Rules.{rules}
 use Rattle.xml.specs.UsedNames.{until-fits}
 use Rattle.xml.specs.NextPart.{nearer-before, nearer-alone, nearer-this, nearer-best}
 use Rattle.xml.proofs.tag.nearer.Goals as goal
 
 pub returns-then-not-precedes : goal.returns-then-not-precedes
-returns-then-not-precedes c = let a = c.args in nearer-before a.s.now (slice a.a a.e a.s.now) a.best a.i (slice (a.i + 1) a.equals a.s.now) (sym c.precedes.ensures ∙ not-true _ c.if-not-precedes.true-raw)
+returns-then-not-precedes c = let a = c.args in nearer-before a.s.now (slice a.a a.e a.s.now) a.best a.i (slice (a.i + 1) a.equals a.s.now) (sym c.precedes.ensures ∙ c.if-not-precedes.true)
 
 pub returns-then-best-s : goal.returns-then-best-s
-returns-then-best-s c = let a = c.args in nearer-alone a.s.now (slice a.a a.e a.s.now) a.best a.i (slice (a.i + 1) a.equals a.s.now) (sym c.precedes.ensures ∙ not-false _ c.if-not-precedes.false-raw) c.if-best-s.true
+returns-then-best-s c = let a = c.args in nearer-alone a.s.now (slice a.a a.e a.s.now) a.best a.i (slice (a.i + 1) a.equals a.s.now) (sym c.precedes.ensures ∙ c.if-not-precedes.false) c.if-best-s.true
 
 pub precedes-requires-2 : goal.precedes-requires-2
 precedes-requires-2 c = let a = c.args in
@@ -26,7 +24,7 @@ precedes-requires-2 c = let a = c.args in
     }
 
 pub returns-then-precedes : goal.returns-then-precedes
-returns-then-precedes c = let a = c.args in nearer-this a.s.now (slice a.a a.e a.s.now) a.best a.i (slice (a.i + 1) a.equals a.s.now) c.until_byte.result (sym c.precedes.ensures ∙ not-false _ c.if-not-precedes.false-raw) c.if-best-s.false c.until_byte.ensures.0 (sym c.precedes-2.ensures ∙ c.if-precedes.true)
+returns-then-precedes c = let a = c.args in nearer-this a.s.now (slice a.a a.e a.s.now) a.best a.i (slice (a.i + 1) a.equals a.s.now) c.until_byte.result (sym c.precedes.ensures ∙ c.if-not-precedes.false) c.if-best-s.false c.until_byte.ensures.0 (sym c.precedes-2.ensures ∙ c.if-precedes.true)
 
 pub returns : goal.returns
-returns c = let a = c.args in nearer-best a.s.now (slice a.a a.e a.s.now) a.best a.i (slice (a.i + 1) a.equals a.s.now) c.until_byte.result (sym c.precedes.ensures ∙ not-false _ c.if-not-precedes.false-raw) c.if-best-s.false c.until_byte.ensures.0 (sym c.precedes-2.ensures ∙ c.if-precedes.false)
+returns c = let a = c.args in nearer-best a.s.now (slice a.a a.e a.s.now) a.best a.i (slice (a.i + 1) a.equals a.s.now) c.until_byte.result (sym c.precedes.ensures ∙ c.if-not-precedes.false) c.if-best-s.false c.until_byte.ensures.0 (sym c.precedes-2.ensures ∙ c.if-precedes.false)

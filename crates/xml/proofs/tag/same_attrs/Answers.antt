@@ -2,12 +2,10 @@
 use Prim.Native.Nat.{◌<◌}
 use mathlib.Core.Path.{sym, ◌∙◌, subst}
 use native.Mathlib.Omega.{arith}
-use borrow.Author.Tests.{not-true, not-false}
 use lib.ListN.{length}
-use Rattle.xml.specs.TagParts.{sorted_from}
 use Rattle.xml.specs.TagPlaces.{PartIn, part_in}
 use Rattle.xml.specs.TagWritten.{sorted-less}
-use Rattle.xml.specs.TagSame.{Comparing, comparing-start, comparing-short, comparing-other, comparing-next, comparing-end}
+use Rattle.xml.specs.TagSame.{comparing-start, comparing-short, comparing-other, comparing-next, comparing-end}
 use Rattle.xml.proofs.tag.same_attrs.Goals as goal
 
 pub next_part-i-requires : goal.next_part-i-requires
@@ -40,7 +38,7 @@ same_parts-requires c =
 pub returns-then-not-same_parts : goal.returns-then-not-same_parts
 returns-then-not-same_parts c =
     let other : c.loop-i.j < length c.args.s2.now = omega (arith, c.if-s2-j.false) in
-    sym (comparing-other c.loop-i.invariant c.loop-i-test.true other c.part_at-p.ensures c.part_at-q.ensures (sym c.same_parts.ensures ∙ not-true _ c.if-not-same_parts.true-raw))
+    sym (comparing-other c.loop-i.invariant c.loop-i-test.true other c.part_at-p.ensures c.part_at-q.ensures (sym c.same_parts.ensures ∙ c.if-not-same_parts.true))
 
 pub overflow_add-i : goal.overflow_add-i
 overflow_add-i c = omega (arith, c.loop-i-test.true, c.requires.1)
@@ -67,7 +65,7 @@ loop-i-smaller c = sorted-less c.loop-i-test.true c.part_at-p.ensures c.next_par
 pub loop-i-preserved : goal.loop-i-preserved
 loop-i-preserved c =
     let other : c.loop-i.j < length c.args.s2.now = omega (arith, c.if-s2-j.false) in
-    comparing-next c.loop-i.invariant c.loop-i-test.true other c.part_at-p.ensures c.part_at-q.ensures (sym c.same_parts.ensures ∙ not-false _ c.if-not-same_parts.false-raw) c.next_part-i-in-loop-i.ensures c.next_part-j-in-loop-i.ensures
+    comparing-next c.loop-i.invariant c.loop-i-test.true other c.part_at-p.ensures c.part_at-q.ensures (sym c.same_parts.ensures ∙ c.if-not-same_parts.false) c.next_part-i-in-loop-i.ensures c.next_part-j-in-loop-i.ensures
 
 pub returns : goal.returns
 returns c = comparing-end c.loop-i.invariant (omega arith)
