@@ -17,7 +17,7 @@ use xml::tape::view_at;
 use xml::writer::write_at;
 
 // The place after what was written, and how many nodes the version brought that the archive lacked.
-#[derive(Drop)]
+#[derive(Clone, Copy)]
 pub struct Added {
     pub at: usize,
     pub fresh: usize,

@@ -20,7 +20,7 @@ use walks::back::back;
 use xml::tape::clear;
 
 // The number of a refusal or 0, and the length of the result; how many versions the archive has, and which of them is stepped back to.
-#[derive(Drop)]
+#[derive(Clone, Copy)]
 pub struct Back {
     pub number: u32,
     pub length: usize,

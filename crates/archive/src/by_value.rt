@@ -7,7 +7,7 @@ use marks::Table;
 use marks::change::Found;
 
 // The number of a refusal or 0, the length of the result, and the table after the call. Its size is 32, whatever that of the one given is.
-#[derive(Drop)]
+#[derive(Clone, Copy)]
 pub struct Marked {
     pub number: u32,
     pub length: usize,

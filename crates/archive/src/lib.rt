@@ -14,7 +14,7 @@ mod received;
 pub mod retrieve;
 
 // A call's answer: the number of a refusal or 0, and the length of the result.
-#[derive(Drop)]
+#[derive(Clone, Copy)]
 pub struct Answer {
     pub number: u32,
     pub length: usize,

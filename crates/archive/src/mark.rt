@@ -10,7 +10,7 @@ use marks::lent::{find, set};
 use xml::tape::clear;
 
 // The number of a refusal, or 0, and how many versions the archive has: none where it is refused.
-#[derive(Drop)]
+#[derive(Clone, Copy)]
 pub struct Counted {
     pub number: u32,
     pub versions: usize,

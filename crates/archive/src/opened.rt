@@ -10,7 +10,7 @@ use keys::load::{Loaded, load};
 use legality::open::{Opened, open};
 
 // The number of a refusal, or 0; the nodes that the archive has on the tape, and its versions: none where it is refused.
-#[derive(Drop)]
+#[derive(Clone, Copy)]
 pub struct Open {
     pub number: u32,
     pub nodes: usize,

@@ -13,7 +13,7 @@ use xml::compare::is_white;
 use xml::reader::read;
 
 // So many nodes in canonical order; or the number of the refusal.
-#[derive(Drop)]
+#[derive(Clone, Copy)]
 pub(crate) enum Received {
     Done(usize),
     Back(u32),

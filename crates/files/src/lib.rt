@@ -34,7 +34,7 @@ pub fn within(n: usize, out: &[u8]) -> usize
 }
 
 // The text of an error, as far as it fits.
-#[derive(Drop)]
+#[derive(Clone, Copy)]
 struct ErrorText {
     text: [u8; 256],
     length: usize,

@@ -17,14 +17,14 @@ use xml::scan::byte_at;
 use xml::tape::view_at;
 
 // The conditions of a step: the place behind them, 0 where they are wrong, and the positions of the key values.
-#[derive(Drop)]
+#[derive(Clone, Copy)]
 pub struct Conditions {
     pub next: usize,
     pub values: [usize; 4],
 }
 
 // A step: the place behind it, 0 where it is wrong, the position of its name, its place in the table and its key values.
-#[derive(Drop)]
+#[derive(Clone, Copy)]
 pub struct Step {
     pub next: usize,
     pub name: usize,

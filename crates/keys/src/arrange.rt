@@ -10,7 +10,7 @@ use crate::places::{child, is_above};
 use xml::tape::view_at;
 
 // So many nodes in canonical order; or two siblings with one name and key.
-#[derive(Drop)]
+#[derive(Clone, Copy)]
 pub enum Arranged {
     Done(usize),
     Double,

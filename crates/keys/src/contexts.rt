@@ -16,7 +16,7 @@ pub struct Context {
 }
 
 // The beginning of a context: where it ends, the place of its path, and how many names it has.
-#[derive(Drop)]
+#[derive(Clone, Copy)]
 pub struct Known {
     pub end: usize,
     pub place: usize,
@@ -24,7 +24,7 @@ pub struct Known {
 }
 
 // What is kept of a line: where its context starts and ends and its name ends, its context's place and number of names, and the place of its own path.
-#[derive(Drop)]
+#[derive(Clone, Copy)]
 pub struct Last {
     pub start: usize,
     pub end: usize,

@@ -13,7 +13,7 @@ use xml::compare::same_bytes;
 use xml::scan::name_len;
 
 // A key list's table with so many paths; or the text is not in the notation, or breaks a rule.
-#[derive(Drop)]
+#[derive(Clone, Copy)]
 pub enum Loaded {
     Table(usize),
     Notation,

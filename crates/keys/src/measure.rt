@@ -17,7 +17,7 @@ use xml::compare::{is_white, same_bytes, text_len};
 use xml::tape::view_at;
 
 // What a walk has met so far: so many nodes and bytes, or more of something than a version may have.
-#[derive(Drop)]
+#[derive(Clone, Copy)]
 pub struct Sizes {
     pub over: bool,
     pub nodes: usize,

@@ -10,14 +10,14 @@ use xml::compare::same_bytes;
 use xml::scan::{name_len, same};
 
 // The end of a part of a line; or it is not there.
-#[derive(Drop)]
+#[derive(Clone, Copy)]
 pub enum End {
     At(usize),
     Nowhere,
 }
 
 // A line: the ends of its context, its name and its key names; or it is not in the notation.
-#[derive(Drop)]
+#[derive(Clone, Copy)]
 pub enum Line {
     Parts(usize, usize, usize),
     Wrong,

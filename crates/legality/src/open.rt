@@ -23,7 +23,7 @@ use xml::spelling::spelled;
 use xml::tape::view_at;
 
 // The nodes of a legal archive, and its last version's number; or the text is none (10).
-#[derive(Drop)]
+#[derive(Clone, Copy)]
 pub enum Opened {
     Done(usize, usize),
     Illegal,

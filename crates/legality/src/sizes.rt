@@ -21,7 +21,7 @@ use xml::text::plain_end;
 
 // What stands in no `T` of some nodes: its nodes and its written bytes. Or the walk has stopped, at an element deeper than it may go or at
 // a `T` straight in a `T`.
-#[derive(Drop)]
+#[derive(Clone, Copy)]
 pub struct Own {
     pub nodes: u32,
     pub bytes: u32,

@@ -9,14 +9,14 @@ use crate::{Mark, Table};
 use xml::class::is_name_byte;
 
 // The number returned, and the table to write back: nothing of it where the call is refused.
-#[derive(Drop)]
+#[derive(Clone, Copy)]
 pub struct Changed {
     pub number: u32,
     pub table: Table,
 }
 
 // The number returned, the length of what is written, which is 0, and the version: 0 where the call is refused.
-#[derive(Drop)]
+#[derive(Clone, Copy)]
 pub struct Found {
     pub number: u32,
     pub length: usize,

@@ -8,7 +8,7 @@ use crate::{Mark, Table};
 use xml::class::is_name_byte;
 
 // How many marks a table holds, if it is legal.
-#[derive(Drop)]
+#[derive(Clone, Copy)]
 pub enum Judged {
     Marks(usize),
     Illegal,

@@ -85,7 +85,7 @@ fn next_start(text: &[u8], at: usize) -> usize
 }
 
 // Two places of a text, between which a run is sought.
-#[derive(Drop)]
+#[derive(Clone, Copy)]
 pub struct Places {
     pub lo: usize,
     pub hi: usize,

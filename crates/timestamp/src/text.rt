@@ -13,7 +13,7 @@ use crate::{Timestamp, fill, take_run};
 use xml::class::is_digit;
 
 // What is read of a run: the dashes in it (2 for more), the number before the last of them, and the number so far (1000 for more).
-#[derive(Drop)]
+#[derive(Clone, Copy)]
 pub struct Span {
     pub dashes: usize,
     pub lo: usize,
@@ -124,7 +124,7 @@ pub fn belongs(text: &[u8], v: usize) -> bool
 }
 
 // A number that a text has at a place, and the place after it; n is 0 where none is read there.
-#[derive(Drop)]
+#[derive(Clone, Copy)]
 pub struct Number {
     pub n: usize,
     pub to: usize,
@@ -234,14 +234,14 @@ pub(crate) fn number_at(text: &[u8], at: usize) -> Number
 }
 
 // A text's set, where it is the text of one.
-#[derive(Drop)]
+#[derive(Clone, Copy)]
 pub struct Parsed {
     pub ok: bool,
     pub stamp: Timestamp,
 }
 
 // A run that a text has at a place: its first and its last number, and the place after it; hi is 0 where none past the bound is read there.
-#[derive(Drop)]
+#[derive(Clone, Copy)]
 pub struct Run {
     pub lo: usize,
     pub hi: usize,

@@ -9,7 +9,7 @@ use xml::tape::view_at;
 use xml::writer::put_part;
 
 // The text of the nearest `T` around the element of an address, if the element is there.
-#[derive(Drop)]
+#[derive(Clone, Copy)]
 pub struct Around {
     pub found: bool,
     pub start: usize,
@@ -17,7 +17,7 @@ pub struct Around {
 }
 
 // Where a walk stands: the text of the nearest `T`, and the nodes in the element that it has come to.
-#[derive(Drop)]
+#[derive(Clone, Copy)]
 pub struct Stand {
     pub start: usize,
     pub end: usize,

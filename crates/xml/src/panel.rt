@@ -12,7 +12,7 @@ use crate::writer::write;
 
 // The length of the canonical form, which stands in the output; or a refusal: the text has more than 16,384 bytes, the tape less than a
 // cell a byte of it, the byte at this place is wrong, or the output is shorter than the form.
-#[derive(Drop)]
+#[derive(Clone, Copy)]
 pub enum Canon {
     Done(usize),
     Long,

@@ -4,7 +4,7 @@ ghost use Rattle.xml.specs.Views.{view_at, is_run};
 
 // The bytes start to end of the text name the node; kind 0 is a run of text, 1 an element, 2 an archive's `T`; next is the first node
 // after its subtree.
-#[derive(Drop)]
+#[derive(Clone, Copy)]
 pub struct View {
     pub start: usize,
     pub end: usize,

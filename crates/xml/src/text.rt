@@ -9,7 +9,7 @@ use crate::class::is_markup;
 use crate::scan::{byte_at, entity_at};
 
 // The byte that is meant at a place of a run, and the place after what stands for it.
-#[derive(Drop)]
+#[derive(Clone, Copy)]
 pub struct Sign {
     pub byte: u8,
     pub next: usize,
