@@ -3,7 +3,7 @@
 # make station-test  runs every order of the command on document 01's record, wrong words too
 # make library       proves and builds the static library for the firmware, crates/firmware/out/libfirmware.a
 # make edits         tries the wrong programs of tests/edits, besides those of the gate
-# make test          the gate: everything proved from nothing, must-fail edits, programs; then the tests over the library and of the command
+# make test          the gate: everything proved, must-fail edits, programs; then the tests over the library and of the command
 .PHONY: demo station station-test library edits test
 
 # (rt run builds a proved program as out/NAME and runs it, here without its files, so what that run says and its status count for nothing)

@@ -15,7 +15,7 @@
  * The calls keep no state and allocate nothing, and of C's library use memcpy and memset alone. Their work cells
  * (64 KiB) and the draft of an add (32 KiB) are on the caller's stack, of which an add takes some 123 KB at most and
  * any other call some 88 KB (measured, not proved: 122,895 and 87,935 bytes in tests/bench, with key levels and
- * elements as deep as they may be).
+ * elements as deep as they may be, in the library as the older Rattle built it, before the port).
  */
 #ifndef STATION_ARCHIVE_H
 #define STATION_ARCHIVE_H

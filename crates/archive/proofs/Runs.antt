@@ -1,6 +1,5 @@
 -- Demand 3 of the code, joined to the code: the eight calls, each by the postcondition that Rattle reads off the contract which it is proved to
--- meet (`Post`), or, of the four over a lent table of marks, whose proofs are walks of their MIR, by what its contract says (`Tied`); and the
--- one claim about all runs of them.
+-- meet (`Post`), or, of the four over a lent table of marks, by what its contract says (`Tied`); and the one claim about all runs of them.
 use mathlib.Core.Path.{◌≡◌, refl, sym, ◌∙◌, ap}
 use lib.ListN.{length}
 use Rattle.xml.specs.Bytes.{Bytes}
@@ -23,7 +22,7 @@ use Rattle.archive.proofs.retrieve.retrieve.Reads as retrieve-reads
 use Rattle.archive.proofs.history.give_history.Kinds as history-kinds
 use Rattle.archive.proofs.history.give_history.Reads as history-reads
 
--- ---- what the contracts of the walked calls say of an exit
+-- ---- what the contracts of the calls over a lent table say of an exit
 -- `step_back(keys, archive, marks, i, out, work)`
 abbrev back_says : Saying step_back.ended
 back_says κs a r x =

@@ -12,7 +12,7 @@ use Rattle.keys.specs.Result.{Refusal, Result, number_of, refused, ok, ◌>>=◌
 use Rattle.marks.specs.declared.Mark.{Mark}
 use Rattle.marks.specs.declared.Table.{Table}
 use Rattle.marks.specs.declared.change.Found.{Found}
-use Rattle.marks.specs.Marks.{marks_in, is_table, legal_name, find, setting, finding, table_bytes, table_in}
+use Rattle.marks.specs.Marks.{marks_in, is_table, legal_name, find, setting, table_bytes, table_in}
 use Rattle.marks.specs.Passed.{LendsAs}
 use Rattle.marks.specs.BytesLaws.{table-short}
 use Rattle.marks.specs.ChangeLaws.{setting-illegal}

@@ -2,14 +2,14 @@
 use Rattle.std.specs.Prelude.{ℕ, ◌<◌, ◌≤◌, ◌≡◌, Bool, true, false, ltb, drop}
 use Rattle.std.proofs.Common.{arith, ◌∙◌, take_all}
 use Rattle.std.proofs.Math.Path.{refl, sym, ap, subst}
-use mathlib.Core.List.{List, [], ◌∷◌, ◌++◌}
+use mathlib.Core.List.{List, [], ◌++◌}
 use Rattle.std.proofs.Math.Dec.{eqb}
 use Rattle.std.proofs.Math.ListN.{length, replicate}
 use borrow.Author.Tests.{lt-ltb, le-ltb, ltb-true, ltb-false}
 use Rattle.xml.specs.Bytes.{Bytes}
 use Rattle.xml.specs.Over.{over, Wrote}
 use Rattle.xml.specs.OverLaws.{wrote-over}
-use Rattle.keys.specs.Result.{Refusal, Result, number_of, refused, ok, ◌>>=◌, ◌>>◌, refuse, r1, r2, r3, r4, r14}
+use Rattle.keys.specs.Result.{Refusal, Result, number_of, refused, ok, ◌>>=◌, ◌>>◌, refuse, r2, r3, r4, r14}
 use Rattle.keys.specs.KeyList.{KeyList, key_list}
 use Rattle.keys.specs.Version.{version}
 use Rattle.xml.specs.Forest.{Forest}

@@ -1,10 +1,10 @@
 -- The calls over a table of marks: what the contracts of their parts and their own say, and that the parts make the whole.
-use Rattle.std.specs.Prelude.{ℕ, ◌<◌, ◌≤◌, ◌≡◌, false, not, eqb}
+use Rattle.std.specs.Prelude.{ℕ, ◌<◌, ◌≤◌, ◌≡◌, false, eqb}
 use Rattle.std.proofs.Common.{arith, ◌∙◌, lit≤, lt-ltb, le-ltb, ne_eqb}
 use Rattle.std.proofs.Math.Path.{refl, sym, ap, subst}
 use mathlib.Core.List.{List, []}
 use Rattle.std.proofs.Math.ListN.{length, replicate}
-use Rattle.xml.specs.Bytes.{Bytes, any}
+use Rattle.xml.specs.Bytes.{Bytes}
 use Rattle.keys.specs.Result.{Refusal, Result, number_of, refused, ok, ◌>>=◌, ◌>>◌, r1}
 use Rattle.keys.specs.ResultLaws.{refused-ok, ok-inj}
 use Rattle.marks.specs.declared.Mark.{Mark}

@@ -6,7 +6,7 @@ use borrow.Author.Tests.{lt-ltb, le-ltb}
 use Rattle.xml.specs.Bytes.{Bytes}
 use Rattle.xml.specs.Forest.{Forest}
 use Rattle.xml.specs.Tape.{Tape}
-use Rattle.keys.specs.Result.{Refusal, number_of, refused, ok, ◌>>=◌, ◌>>◌, r2, r3, r4, r10}
+use Rattle.keys.specs.Result.{Refusal, number_of, refused, ok, ◌>>=◌, r2, r3, r4, r10}
 use Rattle.keys.specs.KeyList.{KeyList, key_list}
 use Rattle.versions.specs.Archive.{last_version}
 use Rattle.versions.specs.AllTimed.{legal-last}

@@ -70,7 +70,7 @@ Returns a r = (r.number ≡ a.number) × (r.size ≡ length a.bytes)
 abbrev pub ExitsOf : {n : ℕ} (ps : List (ParamKind n)) (r : ResultKind n) → Out n ps r → Type 0
 ExitsOf {n} ps r Post = (κs : Lfts n) × (d : Dens κs ps) × (a : (res_t r κs).Denot) × (x : AtExit (ended_of n ps r) κs) × Post κs d a x
 
--- of a function proved by a walk of its MIR, which has no `Post`: what is said of an exit, and the exits of which it holds
+-- of a function over a lent table of marks: what is said of an exit, and the exits of which it holds
 abbrev pub Saying : Ended → Type 1
 Saying T = (κs : Lfts T.signature.lifetimes) (a : Args T.signature κs) (r : Res T.signature κs) (x : AtExit T κs) → Type 0
 

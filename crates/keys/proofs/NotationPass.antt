@@ -12,7 +12,7 @@ use borrow.Author.Tests.{eqb-true, eqb-false}
 use Rattle.model.specs.Masks.{clash}
 use Rattle.xml.specs.Bytes.{Bytes, all, split}
 use Rattle.xml.specs.Truth.{by-test, and_left, and_right, both}
-use Rattle.keys.specs.Result.{Result, refused, ok, ◌>>=◌, ◌>>◌, r3}
+use Rattle.keys.specs.Result.{Result, refused, ok, ◌>>=◌, r3}
 use Rattle.keys.specs.KeyList.{Key, KeyList, write_key, words, key_of, in_notation, is_root_context, contexts_in_notation, lines_of, keys_of, key_list}
 use Rattle.keys.specs.Notation.{Noted, AllNoted, write_lines, keys_read}
 use Rattle.keys.specs.SpellLaws.{spelt}

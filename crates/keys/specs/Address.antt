@@ -1,10 +1,10 @@
 -- Addresses: `/station/lamp[pos="2"]/hours`.
-use Rattle.std.specs.Prelude.{ℕ, ◌+◌, ◌≡◌, refl, Bool, true, false, not, ◌&&◌, ◌||◌, eqb, leb, ltb, length}
+use Rattle.std.specs.Prelude.{Bool, true, false, not, ◌&&◌, eqb, length}
 use Prim.Native.Char.{code}
-use Rattle.std.proofs.Math.Option.{Option, none, some}
+use Rattle.std.proofs.Math.Option.{none, some}
 use mathlib.Core.List.{List, [], ◌∷◌, ◌++◌, map, zip_with}
-use Rattle.xml.specs.Bytes.{Bytes, bytes, any, all, same, is_empty, split, join_by, is_name, is_value}
-use Rattle.keys.specs.Result.{Result, refused, ok, ◌>>=◌, ◌>>◌, refuse, r12}
+use Rattle.xml.specs.Bytes.{Bytes, bytes, all, same, split, join_by, is_value}
+use Rattle.keys.specs.Result.{Result, ok, ◌>>◌, refuse, r12}
 use Rattle.xml.specs.Forest.{Forest}
 use Rattle.keys.specs.KeyList.{Path, KeyList, listed, key_names_at}
 use Rattle.keys.specs.Version.{◌▸◌, Label, name_in, find, version_compute}

@@ -1,5 +1,5 @@
 -- The parts of an address's step: a word, a value in quotes and a list of conditions are read just where they are written.
-use Rattle.std.specs.Prelude.{ℕ, zero, suc, ◌+◌, ◌≤◌, ◌<◌, ◌≡◌, refl, Bool, true, false, ◌&&◌, [], ◌∷◌, ◌++◌, eqb, leb, length, take, drop, get_or}
+use Rattle.std.specs.Prelude.{ℕ, zero, suc, ◌≤◌, ◌<◌, ◌≡◌, refl, Bool, true, false, ◌&&◌, [], ◌∷◌, ◌++◌, eqb, leb, length, take, drop, get_or}
 use Prim.Native.Char.{code}
 use Rattle.std.proofs.Common.{not-suc-le-zero, le_of_suc-le-suc, add-one, arith, sym, ◌∙◌, ap, ap₂, subst, length-take-le, eqb-true, eq-eqb, leb-true, leb-false, le-leb}
 use Rattle.std.proofs.Math.Option.{none, some}

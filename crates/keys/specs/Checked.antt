@@ -3,10 +3,10 @@ use Rattle.std.specs.Prelude.{ℕ, ◌%◌, ◌<◌, ◌≡◌, refl, true, fals
 use Rattle.std.proofs.Common.{arith, sym, ◌∙◌, subst}
 use Rattle.xml.specs.Bytes.{Bytes}
 use Rattle.xml.specs.Truth.{clash}
-use Rattle.xml.specs.Forest.{Forest, text}
+use Rattle.xml.specs.Forest.{Forest}
 use Rattle.xml.specs.Tape.{head_at, next_at, Tape, at-end, at-text, at-elem, at-stamp}
 use Rattle.keys.specs.ResultLaws.{ok-inj}
-use Rattle.keys.specs.KeyList.{Path, KeyList, key_list, above}
+use Rattle.keys.specs.KeyList.{Path, KeyList, above}
 use Rattle.keys.specs.KeyListLaws.{rules-kept}
 use Rattle.keys.specs.Version.{unkeyed}
 use Rattle.keys.specs.SortedKeys.{keyed-here, keyed-rest}

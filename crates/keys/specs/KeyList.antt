@@ -1,7 +1,6 @@
 -- Key lists: the notation, the rules, paths and frontiers.
-use Rattle.std.specs.Prelude.{ℕ, ◌+◌, ◌≡◌, refl, Bool, true, false, not, ◌&&◌, ◌||◌, eqb, leb, ltb, length}
+use Rattle.std.specs.Prelude.{Bool, true, false, not, ◌&&◌, eqb, leb, length}
 use Prim.Native.Char.{code}
-use Rattle.std.specs.Bool.{beq}
 use mathlib.Core.List.{List, [], ◌∷◌, ◌++◌, map, flat_map}
 use Rattle.xml.specs.Bytes.{Bytes, bytes, any, all, keep, distinct, same_by, same, is_empty, split, join_by, among, is_name, bytes_compute}
 use Rattle.keys.specs.Result.{Result, refused, ok, ◌>>=◌, ◌>>◌, refuse, r3, r4}

@@ -1,6 +1,6 @@
 -- What holds of a legal version, and of its tree of labels: the laws of archives are stated over these.
 use Rattle.std.specs.Prelude.{◌≡◌, Bool, true, false, not, ◌&&◌, List, [], ◌∷◌}
-use Rattle.std.proofs.Math.Option.{Option, none, some}
+use Rattle.std.proofs.Math.Option.{Option, some}
 use Rattle.xml.specs.Bytes.{Bytes, bytes, same, is_name, is_value}
 use Rattle.xml.specs.Forest.{Forest, end, elem, text, stamp, Tidy}
 use Rattle.model.specs.Keyed.{Tree, nil, node, look, Ascending}

@@ -8,7 +8,7 @@ use borrow.Author.Tests.{ltb-false, lt-ltb, le-ltb}
 use Rattle.std.proofs.Math.Seq.{slice, length-slice}
 use Rattle.xml.specs.Bytes.{Bytes, bytes, all, same, is_white}
 use Rattle.xml.specs.Truth.{bool_by}
-use Rattle.xml.specs.Forest.{Forest, end, elem, text, stamp, join, escape, nodes}
+use Rattle.xml.specs.Forest.{Forest, end, elem, text, stamp, join, escape}
 use Rattle.xml.specs.Tape.{head_at, next_at, Tape, at-end, at-text, at-elem, at-stamp}
 use Rattle.xml.specs.TapeLaws.{bytes_at, tape-none}
 use Rattle.keys.specs.declared.measure.Sizes.{Sizes}

@@ -1,14 +1,14 @@
 -- Places: what the place of a path says. A path's prefixes are of the list too, so beneath an unlisted path and a frontier there is none.
-use Rattle.std.specs.Prelude.{ℕ, zero, suc, ◌+◌, ◌<◌, ◌≤◌, ◌≡◌, refl, Bool, true, false, ◌&&◌, ◌⊎◌, leb, get_or}
-use Rattle.std.proofs.Common.{not-suc-le-zero, le_of_suc-le-suc, arith, sym, ◌∙◌, ap, ap₂, subst, ⊎_elim, leb-true, leb-false}
+use Rattle.std.specs.Prelude.{ℕ, zero, suc, ◌<◌, ◌≤◌, ◌≡◌, refl, Bool, true, false, ◌⊎◌, get_or}
+use Rattle.std.proofs.Common.{not-suc-le-zero, le_of_suc-le-suc, arith, sym, ◌∙◌, ap, ⊎_elim, leb-true}
 use Rattle.std.proofs.Math.Logic.{inl, inr}
 use mathlib.Core.List.Memᴰ
 use mathlib.Core.List.{List, [], ◌∷◌, ◌++◌, Memᴰ}
 use Rattle.std.proofs.Math.ListN.{length}
 use Rattle.model.specs.Masks.{clash}
-use Rattle.xml.specs.Bytes.{Bytes, any, all}
+use Rattle.xml.specs.Bytes.{Bytes, any}
 use Rattle.xml.specs.Truth.{not_so, by-test, and_left, and_right, any-mem, mem-any, any_none}
-use Rattle.keys.specs.KeyList.{Path, Key, KeyList, same_path, path, implied, paths, contexts_known, rules_kept, listed, continues, above, frontier, key_names_at}
+use Rattle.keys.specs.KeyList.{Path, Key, KeyList, same_path, path, implied, paths, contexts_known, rules_kept, listed, continues, above, key_names_at}
 use Rattle.keys.specs.Version.{◌▸◌}
 use Rattle.keys.specs.KeyListLaws.{same_path-is, same_path-self, not-above, continues-none, continues-next, paths-mem, mem-paths, rules, no_line, listed_above, front-bare, root-above}
 use Rattle.keys.specs.RootLaws.{not-empty}

@@ -5,7 +5,7 @@ use mathlib.Core.List.Memᴰ
 use mathlib.Core.List.{List, [], ◌∷◌, ◌++◌, Memᴰ}
 use Rattle.std.proofs.lemmas.Bool.{not-true}
 use Rattle.model.specs.Masks.{clash}
-use Rattle.xml.specs.Bytes.{Bytes, all}
+use Rattle.xml.specs.Bytes.{Bytes}
 use Rattle.keys.specs.KeyList.{Path, Key, KeyList, same_path, path, implied, paths, first_bare, rules_kept, is_root_context, contexts_in_notation, listed, key_names_at}
 use Rattle.keys.specs.Version.{◌▸◌}
 use Rattle.xml.specs.Truth.{and_left, and_right, any-mem, all-mem}

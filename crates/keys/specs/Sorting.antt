@@ -1,6 +1,6 @@
 -- Sorting siblings, as a relation between the forest before and after: what sorting keeps is shown by induction on it.
 use Rattle.std.specs.Prelude.{◌≡◌, refl, Bool, true, false, not, ◌&&◌, ◌||◌}
-use Rattle.std.proofs.Common.{sym, ◌∙◌, ap}
+use Rattle.std.proofs.Common.{sym, ◌∙◌}
 use mathlib.Core.Ordering.{Ordering, lt, eq, gt}
 use Rattle.xml.specs.Bytes.{Bytes, bytes, same}
 use Rattle.xml.specs.Forest.{Forest, end, elem, text, stamp}

@@ -1,7 +1,7 @@
 -- The table of a key list: its paths in order (`paths`), two cells a path. The first is start * 64 + count of the name's bytes in the key
 -- list's text; the second is parent * 16 + keys * 2 + inner: the place of the path without its last name, the number of key names (whose
 -- paths come next in the table), and 1 where another path continues it.
-use Rattle.std.specs.Prelude.{ℕ, zero, suc, ◌+◌, ◌*◌, ◌/◌, ◌%◌, ◌<◌, ◌≤◌, ◌≡◌, Bool, true, false, List, [], ◌∷◌, ◌++◌, length, get_or}
+use Rattle.std.specs.Prelude.{ℕ, suc, ◌+◌, ◌*◌, ◌/◌, ◌%◌, ◌<◌, ◌≤◌, ◌≡◌, Bool, true, false, List, [], ◌∷◌, length, get_or}
 use Rattle.std.proofs.Math.Seq.{slice}
 use Rattle.xml.specs.Bytes.{Bytes}
 use Rattle.keys.specs.Result.{ok}

@@ -1,5 +1,5 @@
 -- What the table's cells say of the path at a place: whether it is above the frontiers, its key names, and the paths right below it.
-use Rattle.std.specs.Prelude.{ℕ, zero, suc, ◌+◌, ◌-◌, ◌*◌, ◌<◌, ◌≤◌, ◌≡◌, refl, ◌⊎◌, Bool, true, false, ◌&&◌, eqb, ltb, length, get_or}
+use Rattle.std.specs.Prelude.{ℕ, zero, suc, ◌+◌, ◌-◌, ◌<◌, ◌≤◌, ◌≡◌, refl, ◌⊎◌, Bool, true, false, eqb, ltb, length, get_or}
 use Rattle.std.proofs.Common.{arith, not-suc-le-zero, le_of_suc-le-suc, sym, ◌∙◌, ap, ap₂, subst, inl, inr, ⊎_elim, length-append, get_or-append-add, below_more, eqb-true, eq-eqb, ne_eqb, ltb-true, ltb-false}
 use mathlib.Core.List.Memᴰ
 use mathlib.Core.List.{List, [], ◌∷◌, ◌++◌, flat_map, Memᴰ}
@@ -9,12 +9,12 @@ use Rattle.std.proofs.lemmas.Bool.{eqb-false}
 use Rattle.model.specs.Masks.{clash}
 use Rattle.xml.specs.Bytes.{Bytes, any, same, distinct}
 use Rattle.xml.specs.BytesLaws.{same-is, same_self}
-use Rattle.xml.specs.Truth.{by-test, and_left, and_right, both, not_so, any-mem}
-use Rattle.keys.specs.KeyList.{Path, KeyList, key_list, path, implied, paths, contexts_known, same_path, listed, above, key_names_at, rules_kept}
+use Rattle.xml.specs.Truth.{by-test, and_left, and_right, both, any-mem}
+use Rattle.keys.specs.KeyList.{Path, KeyList, path, implied, paths, contexts_known, same_path, above, key_names_at, rules_kept}
 use Rattle.keys.specs.Version.{◌▸◌}
 use Rattle.keys.specs.KeyListLaws.{same_path-is, rules, rules-kept, no_names, once-head, once-tail}
 use Rattle.keys.specs.RootLaws.{not-empty}
-use Rattle.keys.specs.Table.{place_of, Table, Entry, name_start, name_end, parent_in, keys_in, inner_in, bit_of}
+use Rattle.keys.specs.Table.{place_of, Table, name_start, name_end, parent_in, keys_in, inner_in, bit_of}
 use Rattle.keys.specs.Placed.{OfPlace}
 use Rattle.keys.specs.Places.{part_at, first_below, is_child_at}
 use Rattle.keys.specs.declared.places.Part.{Part}

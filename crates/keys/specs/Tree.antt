@@ -1,7 +1,6 @@
 -- A version as a tree of labels, which is what archives are made of.
-use Rattle.std.specs.Prelude.{◌≡◌, refl, Bool, true, false, ◌&&◌, List, [], ◌∷◌, map}
+use Rattle.std.specs.Prelude.{◌≡◌, refl, Bool, true, false}
 use Rattle.std.proofs.Common.{sym, ap}
-use Rattle.xml.specs.Bytes.{Bytes}
 use Rattle.xml.specs.Forest.{Forest, end, elem, text, stamp, same_forest}
 use Rattle.xml.specs.Truth.{clash}
 use Rattle.xml.specs.BytesLaws.{forest-is, forest-self}

@@ -1,5 +1,5 @@
 -- Version texts: what is dropped, refusals 5 to 9, labels and their order, and the version that is kept.
-use Rattle.std.specs.Prelude.{ℕ, ◌+◌, ◌≡◌, refl, Bool, true, false, not, ◌&&◌, ◌||◌, List, [], ◌∷◌, ◌++◌, map, eqb, leb, ltb, length}
+use Rattle.std.specs.Prelude.{◌≡◌, Bool, true, false, not, ◌&&◌, ◌||◌, List, [], ◌∷◌, ◌++◌, map, ltb, length}
 use Rattle.std.proofs.Math.Option.{Option, none, some}
 use Rattle.xml.specs.Bytes.{Bytes, bytes, all, same, is_white, is_value, line_ends}
 use Rattle.keys.specs.Result.{Result, refused, ok, ◌>>=◌, ◌>>◌, refuse, r5, r6, r7, r8, r9}

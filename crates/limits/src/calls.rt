@@ -34,8 +34,9 @@ pub fn founds(
 {
     let n = within(room, out);
     let answer = found(keys, version, &mut out[..n], work);
+    let length = answer.length;
     line(rt, name, answer, out);
-    within(answer.length, out)
+    within(length, out)
 }
 
 // Adding; answers the result's length.
@@ -53,8 +54,9 @@ pub fn adds(
 {
     let n = within(room, out);
     let answer = add_version(keys, archive, version, &mut out[..n], work);
+    let length = answer.length;
     line(rt, name, answer, out);
-    within(answer.length, out)
+    within(length, out)
 }
 
 // Retrieving.

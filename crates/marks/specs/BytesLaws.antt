@@ -1,5 +1,5 @@
 -- Laws of the loops between a table and its 608 bytes, and the promise that the two forms are one.
-use Rattle.std.specs.Prelude.{ℕ, zero, suc, ◌+◌, ◌-◌, ◌*◌, ◌/◌, ◌%◌, ◌≤◌, ◌<◌, ◌≡◌, refl, List, [], ◌∷◌, ◌++◌, length, take, drop, set, replicate}
+use Rattle.std.specs.Prelude.{ℕ, zero, suc, ◌+◌, ◌*◌, ◌/◌, ◌%◌, ◌≤◌, ◌<◌, ◌≡◌, refl, List, [], ◌∷◌, ◌++◌, length, take, drop, set, replicate}
 use Rattle.std.proofs.Common.{arith, add-one, ◌∙◌, append-nil, append_assoc, length-drop, take-append-drop, drop_of_length-le, get_or-drop, drop-drop, take-suc, take_at, drop_at, take_all, eq-eqb, ne_eqb}
 use Rattle.std.proofs.Math.Path.{sym, ap}
 use Rattle.std.proofs.Math.ListN.{get_or, length-append, get_or-append}

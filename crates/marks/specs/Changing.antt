@@ -5,7 +5,7 @@ use Rattle.marks.specs.declared.Mark.{Mark}
 use Rattle.marks.specs.declared.Table.{Table}
 use Rattle.marks.specs.declared.change.Changed.{Changed}
 use Rattle.marks.specs.declared.change.Found.{Found}
-use Rattle.keys.specs.Result.{Result, refused, ok, ◌>>=◌, ◌>>◌, number_of}
+use Rattle.keys.specs.Result.{Result, refused, ok, ◌>>◌, number_of}
 use Rattle.marks.specs.Marks.{Named, entries, legal_name, not_held, not_full, standing, find, marks_after, number}
 
 abbrev pub mark_named : Bytes → ℕ → Named

@@ -1,6 +1,6 @@
 -- Promises of the definitions of `Marks`: a table is legal exactly if it is that of legal marks, and it is read as these; setting, adding a version
 -- and stepping back keep marks legal; a table and its 608 bytes are the same thing.
-use Rattle.std.specs.Prelude.{ℕ, zero, suc, ◌+◌, ◌-◌, ◌*◌, ◌≤◌, ◌<◌, ◌≡◌, refl, Bool, true, false, not, ◌||◌, List, [], ◌∷◌, ◌++◌, map, eqb, leb, length, get_or, replicate}
+use Rattle.std.specs.Prelude.{ℕ, zero, suc, ◌-◌, ◌*◌, ◌≤◌, ◌<◌, ◌≡◌, refl, Bool, true, false, not, ◌||◌, List, [], ◌∷◌, ◌++◌, map, eqb, leb, length, get_or, replicate}
 use Rattle.std.proofs.Common.{arith, sym, ◌∙◌, ap, length-append, eq-eqb, ne_eqb, leb-true, le-leb, eqb-true}
 use Rattle.std.proofs.lemmas.List.{length-map, length-replicate}
 use Rattle.std.proofs.lemmas.Bool.{not-true}

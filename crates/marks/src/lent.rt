@@ -1,4 +1,4 @@
-// A lent table of marks: few and thin functions, each proved by a walk of its MIR, by hand.
+// A lent table of marks: few and thin functions; what they do is done on a table by value.
 ghost use Rattle.std.specs.Prelude.{◌≡◌, ◌≤◌, ◌++◌, length, take, drop};
 ghost use Rattle.marks.specs.Marks.{setting, finding, dropping};
 ghost use Rattle.marks.specs.Lent.{table_of};

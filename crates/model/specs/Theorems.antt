@@ -1,6 +1,6 @@
 -- The theorems on archives of keyed versions, as they are stored. Versions are counted from 0 here.
-use Rattle.std.specs.Prelude.{ℕ, zero, suc, ◌<◌, ◌≤◌, ◌≡◌, List, [], map, length, take, get_or}
-use Rattle.std.proofs.Common.{ap, ◌∙◌, subst}
+use Rattle.std.specs.Prelude.{ℕ, zero, suc, ◌<◌, ◌≤◌, ◌≡◌, List, map, length, take, get_or}
+use Rattle.std.proofs.Common.{subst}
 use Rattle.model.specs.Gather.{gather, All}
 use Rattle.model.specs.Keyed.{Order, Tree, nil, ◌▷◌, Ascending, holds}
 use Rattle.model.specs.Ledger.{reads, all-WF, all_read, all-cut, all-reads, unique, reads-good, all-observed, length-reads}

@@ -3,7 +3,7 @@ use Rattle.std.specs.Prelude.{ℕ, ◌+◌, ◌-◌, ◌≤◌, ◌≡◌, Bool,
 use Rattle.std.proofs.Math.Option.{Option, none, some}
 use Rattle.std.proofs.Math.Seq.{slice}
 use Rattle.xml.specs.Bytes.{Bytes}
-use Rattle.xml.specs.Forest.{Forest, end, elem, text, stamp, write, nodes}
+use Rattle.xml.specs.Forest.{Forest, end, elem, text, stamp}
 use Rattle.xml.specs.Tape.{next_at, Node, Tape}
 use Rattle.xml.specs.TapeLaws.{opening, closing}
 use Rattle.model.specs.Orders.{labels}

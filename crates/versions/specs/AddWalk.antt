@@ -1,5 +1,5 @@
 -- Adding a version, the walk: what it asks at an element and at a sibling that the version has too, and how far it has come.
-use Rattle.std.specs.Prelude.{ℕ, ◌+◌, ◌-◌, ◌%◌, ◌<◌, ◌≤◌, ◌≡◌, refl, true, false, List, [], ◌++◌, eqb}
+use Rattle.std.specs.Prelude.{ℕ, ◌+◌, ◌%◌, ◌<◌, ◌≤◌, ◌≡◌, refl, true, false, List, [], ◌++◌, eqb}
 use Rattle.std.proofs.Common.{arith, sym, ◌∙◌, append-nil, append_assoc, eqb-true}
 use Rattle.std.proofs.Math.Path.{ap}
 use Rattle.std.proofs.Math.Option.{Option, none, some}
@@ -21,7 +21,7 @@ use Rattle.keys.specs.Ranks.{rank}
 use Rattle.keys.specs.Table.{place_of, Table}
 use Rattle.timestamp.specs.Times.{Times}
 use Rattle.versions.specs.Walk.{first_label, newest, add_new}
-use Rattle.versions.specs.AddParts.{Says, sibling, set_in, old_part, both_part, opened, closed, order_of, SetOf, FrontIn, SiblingsIn, VersionIn, element, place_in, At}
+use Rattle.versions.specs.AddParts.{Says, sibling, set_in, old_part, both_part, opened, closed, order_of, SetOf, FrontIn, SiblingsIn, VersionIn, place_in, At}
 use Rattle.versions.specs.HistoryTape.{element_at, element-timed, element-bare}
 use Rattle.versions.specs.AddTurns.{Next, next-element, add-new}
 use Rattle.versions.specs.AddFront.{wrote-join, join-end}

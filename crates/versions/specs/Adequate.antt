@@ -1,10 +1,10 @@
 -- What the archive of legal versions is and gives: it is what document 01's paragraph says, the archive of the first i is the archive cut
 -- back to i, and histories are the sets of versions that hold the address.
-use Rattle.std.specs.Prelude.{ℕ, zero, suc, ◌+◌, ◌≤◌, ◌<◌, ◌≡◌, Bool, true, not, ◌&&◌, ◌||◌, take}
+use Rattle.std.specs.Prelude.{ℕ, zero, suc, ◌≤◌, ◌≡◌, true, ◌||◌, take}
 use Rattle.std.proofs.Common.{arith, ◌∙◌}
 use Rattle.std.proofs.Math.Path.{refl, sym, ap, ap₂, subst}
 use Rattle.std.proofs.Math.Bool.{false}
-use mathlib.Core.List.{List, [], ◌∷◌, ◌++◌, map}
+use mathlib.Core.List.{List, [], ◌∷◌, map}
 use borrow.Author.Tests.{ltb-false, le-ltb}
 use Rattle.std.proofs.Math.Dec.{ltb}
 use Rattle.std.proofs.Math.ListN.{length, length-map}
@@ -20,16 +20,16 @@ use Rattle.model.specs.Stored.{cut_s, history_s}
 use Rattle.model.specs.Direct.{height}
 use Rattle.model.specs.DirectLaws.{archive-direct}
 use Rattle.model.specs.Theorems.{archive-cut, archive-history}
-use Rattle.keys.specs.KeyList.{KeyList, key_list, rules_kept}
-use Rattle.keys.specs.Result.{Result, ok}
+use Rattle.keys.specs.KeyList.{KeyList, key_list}
+use Rattle.keys.specs.Result.{ok}
 use Rattle.keys.specs.KeyListLaws.{rules-kept}
 use Rattle.keys.specs.Version.{Label, too_large}
 use Rattle.keys.specs.Address.{holds, steps_known}
-use Rattle.keys.specs.Tree.{Content, contents, keyed}
+use Rattle.keys.specs.Tree.{contents, keyed}
 use Rattle.keys.specs.Legal.{LegalVersion}
 use Rattle.keys.specs.TreeParts.{tree-height}
 use Rattle.keys.specs.HoldsLaws.{holds-tree}
-use Rattle.versions.specs.Archive.{Archive, archive, archive_direct, archive_forest, archive_of, archive_text}
+use Rattle.versions.specs.Archive.{archive, archive_direct, archive_of, archive_text}
 use Rattle.versions.specs.NodesBack.{nodes-back}
 use Rattle.versions.specs.BackLength.{length_back}
 use Rattle.versions.specs.LegalLaws.{all-trees, all-ascend, all-legal, legal-of, archive-legal}

@@ -1,7 +1,7 @@
 -- Archives: the merged tree, its written form, and reading it back.
-use Rattle.std.specs.Prelude.{ℕ, zero, suc, ◌+◌, ◌≤◌, ◌≡◌, refl, Bool, true, false, not, ◌&&◌, ◌||◌, eqb, leb, ltb, length, replicate}
-use mathlib.Core.List.{List, [], ◌∷◌, ◌++◌, map, foldr}
-use Rattle.xml.specs.Bytes.{Bytes, bytes, same}
+use Rattle.std.specs.Prelude.{ℕ, zero, suc, ◌≤◌, ◌≡◌, true, false, not, ◌&&◌, leb, ltb, length}
+use mathlib.Core.List.{List, [], ◌∷◌, map}
+use Rattle.xml.specs.Bytes.{Bytes, same}
 use Rattle.xml.specs.Forest.{Forest, end, elem, text, stamp, write, nodes, join}
 use Rattle.xml.specs.Read.{read}
 use Rattle.model.specs.Gather.{gather}
@@ -11,7 +11,7 @@ use Rattle.model.specs.Groups.{Groups, add_g}
 use Rattle.model.specs.Stored.{merge_s, mask_g, or_l}
 use Rattle.model.specs.Direct.{direct, insert_label, labels_in, labels_of, content_at, kids_at, among, distinct, groups_of}
 use Rattle.keys.specs.KeyList.{KeyList}
-use Rattle.keys.specs.Result.{Result, refused, ok, ◌>>=◌, ◌>>◌, refuse, refused_as, r10}
+use Rattle.keys.specs.Result.{Result, ok, ◌>>=◌, ◌>>◌, refuse, refused_as, r10}
 use Rattle.keys.specs.Version.{Label, name_in, parsed, version}
 use Rattle.keys.specs.Address.{address_compute}
 use Rattle.keys.specs.Tree.{Content, contents, keyed, held_by, tree_compute}

@@ -1,5 +1,5 @@
 -- A call that is not refused: what its texts were, and what it gives. Stepping back by name is stepping back by number.
-use Rattle.std.specs.Prelude.{ℕ, ◌+◌, ◌≤◌, ◌≡◌, Bool, true, false, not, ◌&&◌, ◌||◌, eqb, leb, ltb, T, length, take}
+use Rattle.std.specs.Prelude.{ℕ, ◌≤◌, ◌≡◌, Bool, true, false, not, ◌&&◌, ◌||◌, eqb, leb, ltb, T, length, take}
 use Rattle.std.proofs.Common.{arith, ◌∙◌, lit≤, nltb→le, leb→le}
 use Rattle.std.proofs.Math.Path.{refl, sym, ap}
 use mathlib.Core.List.{List, [], ◌∷◌, ◌++◌, map}

@@ -1,5 +1,5 @@
 -- The calls: what each answers, for all inputs. A call is lent texts, a table of marks (Q-2), an output of `out` bytes and `work` cells.
-use Rattle.std.specs.Prelude.{ℕ, zero, suc, ◌+◌, ◌-◌, true, false, not, ◌&&◌, ◌||◌, List, [], ◌∷◌, ◌++◌, map, eqb, leb, ltb, length, take, drop, replicate}
+use Rattle.std.specs.Prelude.{ℕ, zero, suc, true, false, not, ◌&&◌, ◌||◌, List, [], ◌∷◌, ◌++◌, map, eqb, leb, ltb, length, take, drop, replicate}
 use Rattle.std.proofs.Math.ListN.{get_elem?}
 use Rattle.xml.specs.Bytes.{Bytes}
 use Rattle.keys.specs.Result.{Result, number_of, refused, ok, ◌>>=◌, ◌>>◌, refuse, or_refuse, r1, r2, r11, r13, r14}

@@ -10,9 +10,9 @@ use borrow.Author.Tests.{not-true, leb-true, le-leb}
 use Rattle.std.proofs.lemmas.List.{length-replicate, get_or-replicate}
 use Rattle.xml.specs.Bytes.{all, same}
 use Rattle.xml.specs.BytesLaws.{same-is, same_self}
-use Rattle.xml.specs.Forest.{Forest, end, elem, text, stamp, nodes, join, Tidy}
+use Rattle.xml.specs.Forest.{Forest, end, elem, text, stamp, nodes, Tidy}
 use Rattle.xml.specs.Read.{is_end}
-use Rattle.model.specs.Keyed.{any, nil, node, Under, Roof, WFBy}
+use Rattle.model.specs.Keyed.{nil, node, Under, Roof, WFBy}
 use Rattle.model.specs.Masks.{clash}
 use Rattle.model.specs.Orders.{labels}
 use Rattle.model.specs.Stored.{mask_g, length-mask_g, WFS}

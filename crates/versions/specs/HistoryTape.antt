@@ -7,7 +7,7 @@ use Rattle.std.proofs.Math.Option.{none}
 use borrow.Author.Tests.{eq-eqb, ne_eqb}
 use Rattle.std.proofs.Math.Dec.{eqb}
 use Rattle.xml.specs.Bytes.{Bytes}
-use Rattle.xml.specs.Forest.{Forest, end, elem, text, stamp}
+use Rattle.xml.specs.Forest.{Forest, end, elem, stamp}
 use Rattle.xml.specs.Tape.{head_at, next_at, end_in, Node, Tape, at-end, at-text, at-elem, at-stamp}
 use Rattle.xml.specs.TapeLaws.{bytes_at, tape-le, tape-none, front}
 use Rattle.model.specs.Masks.{clash}

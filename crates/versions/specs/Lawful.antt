@@ -1,16 +1,14 @@
 -- What holds of the tree of an archive: the conditions on a legal version's tree (keys' Legal.antt), over sets of versions.
-use Rattle.std.specs.Prelude.{ℕ, ◌≤◌, ◌≡◌, Bool, true, false, List, [], ◌∷◌}
-use Rattle.std.proofs.Math.Option.{Option, none, some}
+use Rattle.std.specs.Prelude.{ℕ, ◌≡◌, [], ◌∷◌}
+use Rattle.std.proofs.Math.Option.{Option, some}
 use Rattle.xml.specs.Bytes.{Bytes}
-use Rattle.xml.specs.Forest.{Forest, end, text}
+use Rattle.xml.specs.Forest.{end, text}
 use Rattle.model.specs.Gather.{All}
-use Rattle.model.specs.Keyed.{Tree}
 use Rattle.model.specs.Orders.{labels}
 use Rattle.model.specs.Groups.{Groups}
 use Rattle.model.specs.Stored.{mask_g, WFS}
 use Rattle.keys.specs.KeyList.{Path, KeyList}
-use Rattle.keys.specs.Version.{Label}
-use Rattle.keys.specs.Tree.{Content, inner, front, contents}
+use Rattle.keys.specs.Tree.{Content, front, contents}
 use Rattle.keys.specs.Legal.{Lawful, InnerContent, FrontContent, AtMostOne}
 use Rattle.versions.specs.Archive.{Archive}
 

@@ -4,7 +4,7 @@ use Rattle.std.proofs.Common.{arith, sym, ◌∙◌, ap₂}
 use Rattle.std.proofs.Math.Path.{refl, ap, subst}
 use Rattle.std.proofs.Math.Bool.{and-true, and-false}
 use Rattle.std.proofs.Math.Option.{Option, none, some}
-use Rattle.xml.specs.Bytes.{Bytes, same}
+use Rattle.xml.specs.Bytes.{Bytes}
 use Rattle.xml.specs.Truth.{clash, and_left}
 use Rattle.xml.specs.Forest.{Forest, end, elem, stamp}
 use Rattle.xml.specs.Tape.{next_at, Node, Tape, at-end, at-text, at-elem, at-stamp}

@@ -1,5 +1,5 @@
 -- A legal archive's text is exactly the written archive of some 1 to 999 legal versions of at most 1,024 nodes, and reads back as these.
-use Rattle.std.specs.Prelude.{ℕ, zero, suc, ◌+◌, ◌≤◌, ◌<◌, ◌≡◌, Bool, ◌&&◌, List, [], ◌∷◌, ◌++◌, map, get_or}
+use Rattle.std.specs.Prelude.{ℕ, zero, suc, ◌+◌, ◌≤◌, ◌<◌, ◌≡◌, ◌&&◌, List, [], ◌∷◌, map, get_or}
 use Rattle.std.proofs.Common.{arith, sym, ◌∙◌}
 use Rattle.std.proofs.Math.Numerals.{one-add}
 use Rattle.std.proofs.Math.Path.{refl, ap, subst}
@@ -8,16 +8,16 @@ use Rattle.std.proofs.Math.Dec.{leb, ltb}
 use Rattle.std.proofs.Math.ListN.{length, length-map, get_or-map}
 use borrow.Author.Tests.{le-leb, le-ltb, leb-true, ltb-false, not-false}
 use Rattle.xml.specs.Bytes.{Bytes, same}
-use Rattle.xml.specs.Forest.{Forest, end, elem, text, stamp, write, nodes, Tidy, Root}
+use Rattle.xml.specs.Forest.{Forest, end, write, nodes}
 use Rattle.xml.specs.Read.{Outcome, whole, broken, read}
 use Rattle.xml.specs.RoundTrip.{read-write}
 use Rattle.xml.specs.BytesLaws.{same-is, same_self}
 use Rattle.model.specs.Gather.{All, gather}
-use Rattle.model.specs.Keyed.{Tree, nil, node, Ascending}
+use Rattle.model.specs.Keyed.{Tree, nil, Ascending}
 use Rattle.model.specs.Orders.{labels}
-use Rattle.model.specs.Stored.{version_s, merge_s}
+use Rattle.model.specs.Stored.{merge_s}
 use Rattle.model.specs.Theorems.{archive-version}
-use Rattle.keys.specs.Result.{Result, refused, ok, ◌>>=◌, ◌>>◌, refuse, refused_as, r10}
+use Rattle.keys.specs.Result.{ok, ◌>>=◌, ◌>>◌, refuse, r10}
 use Rattle.keys.specs.KeyList.{KeyList, key_list, rules_kept}
 use Rattle.keys.specs.KeyListLaws.{rules-kept, key_list-notation}
 use Rattle.keys.specs.Versions.{version-legal, legal-version}
@@ -26,15 +26,14 @@ use Rattle.keys.specs.TreeLaws.{legal-tree}
 use Rattle.keys.specs.Version.{Label, parsed, version}
 use Rattle.keys.specs.Tree.{Content, contents, keyed, forest_of}
 use Rattle.keys.specs.Legal.{LegalVersion, LegalTree}
-use Rattle.xml.specs.Truth.{and_left, and_right, and_both}
+use Rattle.xml.specs.Truth.{and_left, and_right}
 use Rattle.timestamp.specs.TimesLaws.{last-always}
-use Rattle.timestamp.specs.Times.{always, write_times, last_number}
 use Rattle.keys.specs.ResultLaws.{refused-ok, ok-inj, bind_inv, passed, refused_as-inv}
 use Rattle.versions.specs.Lawful.{LegalArchive}
 use Rattle.versions.specs.LawfulMerge.{archive-legal-tree}
 use Rattle.versions.specs.StampedTidy.{archive-tidy}
 use Rattle.versions.specs.Picked.{pick-archive}
-use Rattle.versions.specs.Archive.{Archive, archive, archive_forest, archive_of, Versions, empty, more, Legal, pick, versions_from, last_version, archive_text}
+use Rattle.versions.specs.Archive.{archive, archive_forest, archive_of, Versions, empty, more, Legal, pick, versions_from, last_version, archive_text}
 
 whole-inj : {f g : Forest} → whole f ≡ whole g → f ≡ g
 whole-inj e = cc

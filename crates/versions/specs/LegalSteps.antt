@@ -8,7 +8,7 @@ use mathlib.Core.Ordering.{Ordering, lt, eq, gt}
 use Rattle.std.proofs.Math.Dec.{eqb}
 use Rattle.xml.specs.Bytes.{Bytes, bytes, all, same}
 use Rattle.xml.specs.Truth.{by-test, and_left, and_right}
-use Rattle.xml.specs.Forest.{Forest, text}
+use Rattle.xml.specs.Forest.{Forest}
 use Rattle.xml.specs.Tape.{next_at, Node, Tape}
 use Rattle.xml.specs.TapeLaws.{bytes_at}
 use Rattle.model.specs.Orders.{labels, is_lt}

@@ -1,9 +1,9 @@
 -- The sizes of every version of an archive, in one walk: what a `T` holds itself, other `T`s apart, counts for each of its versions.
-use Rattle.std.specs.Prelude.{ℕ, zero, suc, ◌+◌, ◌*◌, ◌≤◌, max, ◌≡◌, refl, Bool, true, false, not, ◌&&◌, ◌||◌, List, [], ◌∷◌, ◌++◌, length}
-use Rattle.std.proofs.Common.{arith, sym, ◌∙◌, ap, ap₂, append_assoc, length-append}
+use Rattle.std.specs.Prelude.{ℕ, ◌+◌, ◌*◌, ◌≡◌, refl, Bool, true, false, ◌++◌, length}
+use Rattle.std.proofs.Common.{arith, sym, append_assoc, length-append}
 use Rattle.xml.specs.Bytes.{Bytes, bytes, same}
-use Rattle.xml.specs.Forest.{Forest, end, elem, text, stamp, join, escape, write, nodes, depth}
-use Rattle.xml.specs.Truth.{bool_by, clash}
+use Rattle.xml.specs.Forest.{Forest, end, elem, text, stamp, join, escape, write, nodes}
+use Rattle.xml.specs.Truth.{clash}
 use Rattle.timestamp.specs.Times.{belongs}
 use Rattle.versions.specs.Archive.{pick}
 

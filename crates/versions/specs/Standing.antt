@@ -1,5 +1,5 @@
 -- "The versions standing": demand 3, by induction over the list of calls.
-use Rattle.std.specs.Prelude.{ℕ, zero, suc, ◌+◌, ◌≤◌, ◌<◌, ◌≡◌, eqb, ltb, T, take}
+use Rattle.std.specs.Prelude.{ℕ, zero, suc, ◌≤◌, ◌<◌, ◌≡◌, eqb, ltb, T, take}
 use Rattle.std.proofs.Common.{arith, ◌∙◌, subst, eqb→eq, eq-eqb, ltb-true, ltb-false}
 use Rattle.std.proofs.Math.Path.{refl, sym, ap, ap₂}
 use Rattle.std.proofs.Math.Bool.{Bool, true, false}

@@ -4,7 +4,7 @@ use Rattle.std.proofs.Math.Path.{refl, ap, subst}
 use Rattle.std.proofs.Common.{sym, ◌∙◌}
 use Rattle.std.proofs.Math.Bool.{true, false, not}
 use Rattle.std.proofs.Math.Option.{some}
-use Rattle.xml.specs.Bytes.{all, same}
+use Rattle.xml.specs.Bytes.{all}
 use Rattle.xml.specs.Forest.{Forest, end, elem, stamp}
 use Rattle.xml.specs.Read.{is_end}
 use Rattle.model.specs.Keyed.{any, nil, node, Roof, WFBy}

@@ -2,7 +2,7 @@
 -- retrieving, stepping back, histories, adding and the calls over marks do there. Calls.antt is stated without it; WalkLaws.antt says that it comes to the same.
 use Rattle.std.specs.Prelude.{ℕ, suc, Bool, true, false, not, ◌&&◌, ◌||◌, List, [], ◌∷◌, ◌++◌, map, eqb, leb, length}
 use Rattle.std.proofs.Math.Option.{Option, none, some}
-use Rattle.xml.specs.Bytes.{Bytes, bytes, any, all, same}
+use Rattle.xml.specs.Bytes.{Bytes, bytes, all, same}
 use Rattle.xml.specs.Forest.{Forest, end, elem, text, stamp, write, nodes, join, same_forest}
 use Rattle.xml.specs.Read.{read, is_end}
 use Rattle.model.specs.Keyed.{three}

@@ -1,5 +1,5 @@
 -- The walks on an archive's forest come to what the calls say: adding, retrieving, histories, stepping back, and the calls over marks.
-use Prim.Native.Nat.{ℕ, zero, suc, ◌+◌, ◌-◌, ◌≤◌, ◌<◌}
+use Prim.Native.Nat.{ℕ, zero, suc, ◌≤◌, ◌<◌}
 use Rattle.std.proofs.Common.{arith, ◌∙◌, ap₂, subst, length-take-le}
 use Rattle.std.specs.Prelude.{◌≡◌, Bool, not, ◌&&◌, eqb, take, get_or}
 use Rattle.std.proofs.Math.Path.{refl, sym, ap}
@@ -15,7 +15,7 @@ use Rattle.xml.specs.Bytes.{Bytes, same, split}
 use Rattle.xml.specs.Forest.{Forest, end, write}
 use Rattle.xml.specs.Truth.{clash, by-test, and_left, and_right, and-false}
 use Rattle.model.specs.Gather.{All, gather, gather-more}
-use Rattle.model.specs.Keyed.{Tree, nil}
+use Rattle.model.specs.Keyed.{nil}
 use Rattle.model.specs.Orders.{labels}
 use Rattle.model.specs.Stored.{merge_s}
 use Rattle.keys.specs.KeyList.{KeyList, key_list}

@@ -1,37 +1,36 @@
 -- The conditions that a program checks on an archive's forest accept exactly the legal archives.
-use Prim.Native.Nat.{ℕ, zero, suc, ◌+◌, ◌≤◌, ◌<◌}
-use Rattle.std.proofs.Common.{arith, ◌∙◌, ap₂, inl, inr, ⊎_elim}
-use Rattle.std.specs.Prelude.{◌≡◌, ◌⊎◌, Bool, not, ◌&&◌, ltb, get_or}
+use Prim.Native.Nat.{ℕ, zero, suc, ◌≤◌, ◌<◌}
+use Rattle.std.proofs.Common.{arith, ◌∙◌, ap₂, inl, inr}
+use Rattle.std.specs.Prelude.{◌≡◌, ◌⊎◌, not, ◌&&◌, ltb}
 use Rattle.std.proofs.Math.Path.{refl, sym, ap, subst}
 use Rattle.std.proofs.Math.Bool.{true, false}
 use Rattle.std.proofs.Math.Dec.{leb}
 use mathlib.Core.List.{List, [], ◌∷◌, ◌++◌, map, map-append}
 use Rattle.std.proofs.lemmas.Bool.{not-false}
-use Rattle.std.proofs.Math.ListN.{length, length-map, get_or-append}
+use Rattle.std.proofs.Math.ListN.{length, length-map}
 use Rattle.xml.specs.Bytes.{Bytes, same}
-use Rattle.xml.specs.Forest.{Forest, end, write, nodes}
+use Rattle.xml.specs.Forest.{Forest, write, nodes}
 use Rattle.xml.specs.Read.{Outcome, whole, broken, read}
 use Rattle.xml.specs.RoundTrip.{read-tidy}
 use Rattle.xml.specs.BytesLaws.{same-is, same_self}
-use Rattle.model.specs.Gather.{All, all_snoc, gather}
-use Rattle.model.specs.Keyed.{Tree, nil}
+use Rattle.model.specs.Gather.{All, all_snoc}
 use Rattle.model.specs.Orders.{labels}
 use Rattle.model.specs.Ledger.{reads}
-use Rattle.model.specs.Stored.{merge_s, version_s}
-use Rattle.model.specs.Theorems.{versions, formed-archive, length-versions}
-use Rattle.keys.specs.KeyList.{KeyList, key_list, rules_kept}
+use Rattle.model.specs.Stored.{version_s}
+use Rattle.model.specs.Theorems.{formed-archive, length-versions}
+use Rattle.keys.specs.KeyList.{KeyList, key_list}
 use Rattle.keys.specs.KeyListLaws.{rules-kept, key_list-notation}
 use Rattle.keys.specs.Result.{Refusal, Result, refused, ok, ◌>>=◌, ◌>>◌, refuse, refused_as, r10}
-use Rattle.keys.specs.ResultLaws.{refused-ok, ok-inj, bind_inv, passed, refused_as-inv}
-use Rattle.keys.specs.Version.{Label, parsed, too_large}
-use Rattle.keys.specs.Tree.{Content, contents, keyed, forest_of}
+use Rattle.keys.specs.ResultLaws.{refused-ok, passed, refused_as-inv}
+use Rattle.keys.specs.Version.{parsed, too_large}
+use Rattle.keys.specs.Tree.{contents, keyed, forest_of}
 use Rattle.keys.specs.Legal.{LegalVersion, LegalTree}
 use Rattle.keys.specs.TreeVersion.{tree-legal, tree-keyed}
 use Rattle.versions.specs.Archive.{Archive, archive, archive_forest, archive_of, archive_text, pick, versions_from, last_version}
 use Rattle.versions.specs.Lawful.{LegalArchive}
 use Rattle.versions.specs.LawfulVersions.{version-legal-tree}
 use Rattle.versions.specs.Picked.{pick-archive}
-use Rattle.versions.specs.ForestLegal.{LegalForest, forest-legal, legal-forest}
+use Rattle.versions.specs.ForestLegal.{forest-legal, legal-forest}
 use Rattle.versions.specs.LegalLaws.{all-legal, all-at, legal-of, picked_of, read_of, read_back, archive-legal}
 use Rattle.versions.specs.Walk.{forest_legal, archive_read}
 

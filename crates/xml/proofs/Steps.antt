@@ -9,7 +9,7 @@ use lib.Dec.{leb}
 use lib.ListN.{length, drop, get_or, set, length-drop}
 use lib.Seq.{drop-cons}
 use Rattle.xml.specs.Bytes.{Bytes}
-use Rattle.xml.specs.Forest.{Forest, text}
+use Rattle.xml.specs.Forest.{Forest}
 use Rattle.xml.specs.Read.{Stack, Move, move, wrong, broken, step, go, read}
 use Rattle.xml.specs.declared.Step.{Step}
 use Rattle.xml.specs.Truth.{by-test}

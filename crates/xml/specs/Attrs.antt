@@ -1,5 +1,5 @@
 -- What stands in a start tag is scanned to its end, and what is scanned so is a name with attributes; what the tag means.
-use Rattle.std.specs.Prelude.{ℕ, zero, suc, ◌+◌, ◌-◌, ◌≤◌, ◌<◌, ◌≡◌, refl, Bool, true, false, ◌&&◌, List, [], ◌∷◌, ◌++◌, eqb, length, take, drop, get_or}
+use Rattle.std.specs.Prelude.{ℕ, zero, suc, ◌+◌, ◌≤◌, ◌<◌, ◌≡◌, refl, Bool, true, false, ◌&&◌, List, [], ◌∷◌, ◌++◌, eqb, length, take, drop, get_or}
 use Prim.Native.Char.{code}
 use Rattle.std.proofs.Common.{add-zero, not-suc-le-zero, le_of_suc-le-suc, arith, ap, ap₂, sym, ◌∙◌, subst, append_assoc, eq-eqb, ne_eqb, eqb-true, length-append, length-drop, get_or-append-add, drop-cons, drop-drop, length-take-le}
 use Rattle.std.proofs.Math.Seq.{take-append_seam, get_or-append_seam, drop-append-add, split_at}

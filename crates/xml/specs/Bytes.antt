@@ -1,7 +1,6 @@
 -- Byte strings: literals, tests, splitting at bytes, and the class of a byte.
 use Rattle.std.specs.Prelude.{ℕ, ◌≡◌, refl, Bool, false, ◌&&◌, ◌||◌, eqb, leb, length, get_or}
-use Prim.Native.Char.{Char, code}
-use Prim.Native.String
+use Prim.Native.Char.{code}
 use Prim.Native.String.{String}
 use Rattle.std.proofs.Math.Bool.{true, not}
 use mathlib.Core.List.{List, [], ◌∷◌, ◌++◌}

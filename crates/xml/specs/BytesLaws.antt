@@ -1,7 +1,7 @@
 -- Equal bytes, equal forests: the tests decide equality.
-use Rattle.std.specs.Prelude.{◌≡◌, Bool, true, false, ◌&&◌, eqb}
+use Rattle.std.specs.Prelude.{◌≡◌, Bool, true, ◌&&◌, eqb}
 use Rattle.std.proofs.Math.Path.{refl, ap₂}
-use Rattle.std.proofs.Common.{sym, ◌∙◌, ap, eq-eqb, eqb-true}
+use Rattle.std.proofs.Common.{sym, eq-eqb, eqb-true}
 use mathlib.Core.List.{List, [], ◌∷◌}
 use Rattle.xml.specs.Bytes.{Bytes, same_by, same}
 use Rattle.xml.specs.Truth.{clash, and_left, and_right, and_both}

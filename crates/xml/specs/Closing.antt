@@ -1,5 +1,5 @@
 -- What is open, closed by its end tags; and the start tags `<name/>` and `<T t="..">` before these: each is read to the end of the text.
-use Rattle.std.specs.Prelude.{◌≡◌, refl, Bool, true, false, [], ◌∷◌, ◌++◌, ℕ, zero, suc, ◌+◌, ◌<◌, ◌≤◌, length, take, drop, get_or}
+use Rattle.std.specs.Prelude.{◌≡◌, refl, Bool, true, false, [], ◌∷◌, ◌++◌, ℕ, zero, suc, ◌+◌, ◌≤◌, length, take, drop, get_or}
 use Rattle.std.proofs.Common.{ap, sym, ◌∙◌, arith, length-append, get_or-append-add}
 use Prim.Native.Char.{code}
 use Rattle.std.proofs.lemmas.Bool.{eqb-false}

@@ -1,5 +1,5 @@
 -- Completeness of reading: a text is read as the forest that it spells.
-use Rattle.std.specs.Prelude.{ℕ, ◌+◌, ◌≡◌, refl, Bool, false}
+use Rattle.std.specs.Prelude.{ℕ, ◌≡◌, refl, Bool, false}
 use Prim.Native.Char.{code}
 use Rattle.std.proofs.Common.{ap, sym, ◌∙◌}
 use mathlib.Core.List.{[], ◌∷◌, ◌++◌, append_assoc, append-nil}

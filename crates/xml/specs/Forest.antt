@@ -1,5 +1,5 @@
 -- A forest of XML nodes, and its written form.
-use Rattle.std.specs.Prelude.{ℕ, ◌+◌, max, ◌≡◌, refl, Bool, true, false, not, ◌&&◌, ◌||◌, List, [], ◌∷◌, ◌++◌, eqb}
+use Rattle.std.specs.Prelude.{ℕ, ◌+◌, max, ◌≡◌, Bool, true, false, ◌&&◌, [], ◌∷◌, ◌++◌, eqb}
 use Prim.Native.Char.{code}
 use Rattle.xml.specs.Bytes.{Bytes, bytes, all, same, is_empty, is_meant, is_name, is_times, bytes_compute}
 

@@ -1,5 +1,5 @@
 -- Reading goes over a tag, and over a run of text.
-use Rattle.std.specs.Prelude.{ℕ, suc, ◌+◌, ◌-◌, ◌≤◌, ◌<◌, ◌≡◌, Bool, true, false, [], ◌∷◌, ◌++◌, length, take, drop, get_or}
+use Rattle.std.specs.Prelude.{ℕ, suc, ◌+◌, ◌-◌, ◌≤◌, ◌≡◌, Bool, true, false, [], ◌∷◌, ◌++◌, length, take, drop, get_or}
 use Prim.Native.Char.{code}
 use Rattle.std.proofs.Common.{zero-add, arith, ap, sym, ◌∙◌, length-append, get_or-append-add}
 use Rattle.std.proofs.Math.Path.{refl}

@@ -1,9 +1,9 @@
 -- Laws of the grammar's characters: what a run means, and when a byte stands for itself.
-use Rattle.std.specs.Prelude.{ℕ, ◌≡◌, refl, Bool, true, false, ◌&&◌, ◌||◌, [], ◌∷◌, ◌++◌, eqb, get_or}
+use Rattle.std.specs.Prelude.{ℕ, ◌≡◌, refl, Bool, true, false, ◌||◌, [], ◌∷◌, ◌++◌, eqb, get_or}
 use Prim.Native.Char.{code}
-use Rattle.std.proofs.Common.{arith, ap, sym, ◌∙◌, ne_eqb, eq-eqb}
+use Rattle.std.proofs.Common.{ap, sym, ◌∙◌, ne_eqb, eq-eqb}
 use Rattle.std.proofs.lemmas.Bool.{eqb-false}
-use Rattle.xml.specs.Bytes.{Bytes, bytes, all, is_empty, Class, illegal, white, start, other, markup, plain, class_of, among, within, is_letter, is_digit, is_legal, is_character, is_meant, bytes_compute}
+use Rattle.xml.specs.Bytes.{Bytes, all, is_empty, Class, illegal, white, start, other, markup, plain, class_of, among, within, is_letter, is_digit, is_legal, is_character, is_meant, bytes_compute}
 use Rattle.xml.specs.Truth.{both, clash, neither}
 use Rattle.xml.specs.Grammar.{Entity, lt, gt, amp, quot, apos, Characters, none, kept, joined, turned, entity}
 use Rattle.xml.specs.Read.{unescape, read_compute}

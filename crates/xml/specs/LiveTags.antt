@@ -3,7 +3,7 @@ use Rattle.std.specs.Prelude.{◌≡◌, Bool, true, false, [], ◌∷◌, ◌++
 use Rattle.std.proofs.Math.Path.{refl}
 use Rattle.std.proofs.Common.{ap, sym, ◌∙◌, subst, append_assoc, arith, eqb-true, take-suc, take-add, length-take-le}
 use Prim.Native.Char.{code}
-use Prim.Native.Nat.{ℕ, suc, ◌+◌, ◌<◌}
+use Prim.Native.Nat.{ℕ, suc, ◌+◌}
 use Rattle.std.proofs.lemmas.Bool.{eqb-false}
 use Rattle.xml.specs.Bytes.{Bytes, bytes, is_start, bytes_compute}
 use Rattle.xml.specs.Forest.{Forest, end, elem, text, stamp, join}

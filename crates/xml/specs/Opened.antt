@@ -1,5 +1,5 @@
 -- What has been read spells what is open: the invariant of reading, and how it grows.
-use Rattle.std.specs.Prelude.{ℕ, ◌+◌, ◌≡◌, refl, Bool, true, false, ◌||◌, [], ◌∷◌, ◌++◌}
+use Rattle.std.specs.Prelude.{ℕ, ◌≡◌, refl, Bool, true, false, ◌||◌, [], ◌∷◌, ◌++◌}
 use Rattle.std.proofs.Common.{ap, sym, ◌∙◌, subst, append_assoc, append-nil}
 use Rattle.xml.specs.Bytes.{Bytes, bytes, all, is_name, is_times, is_white}
 use Rattle.xml.specs.Forest.{Forest, end, elem, text, stamp, join, NotText, Root}

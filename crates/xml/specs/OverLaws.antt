@@ -1,5 +1,5 @@
 -- The laws of `over`, `over_at` and `Wrote`: pieces that are written one after the other are one piece, also through a lent part.
-use Rattle.std.specs.Prelude.{ℕ, zero, suc, ◌+◌, ◌-◌, ◌≤◌, ◌<◌, min, ◌≡◌, refl, List, [], ◌∷◌, ◌++◌, length, take, drop, set}
+use Rattle.std.specs.Prelude.{ℕ, zero, suc, ◌+◌, ◌-◌, ◌≤◌, min, ◌≡◌, refl, List, [], ◌∷◌, ◌++◌, length, take, drop, set}
 use Rattle.std.proofs.Common.{zero-le, ap, sym, ◌∙◌, append-nil, zero-add, suc-add, arith, length-append, length-drop, drop_of_length-le, take_all}
 use Rattle.std.proofs.Math.Nat.{zero-min, suc-min-suc}
 use borrow.Rule.Slice.PartMut.{put_mid}

@@ -1,6 +1,6 @@
 -- Reading a text of the XML subset, token by token: the forest that it spells, or the place of the first byte that no such text has there.
 -- What it means is the grammar (Grammar.antt, `read-sound` and `read-complete`); a program is proved against these steps.
-use Rattle.std.specs.Prelude.{ℕ, zero, suc, ◌+◌, ◌-◌, max, ◌≡◌, refl, Bool, true, false, ◌&&◌, ◌||◌, List, [], ◌∷◌, ◌++◌, map, eqb, leb, length, take, drop, get_or}
+use Rattle.std.specs.Prelude.{ℕ, zero, suc, ◌+◌, ◌-◌, max, ◌≡◌, refl, Bool, true, false, ◌&&◌, ◌||◌, List, [], ◌∷◌, map, eqb, leb, length, take, drop, get_or}
 use Prim.Native.Char.{code}
 use Rattle.xml.specs.Bytes.{Bytes, bytes, same, is_white, is_legal, is_character, is_start, is_name_byte, is_times}
 use Rattle.xml.specs.Tags.{Attr, attr, name_of, parts, tag_text, is_quote, in_value, is_new, fresh, new_len, tags_compute}

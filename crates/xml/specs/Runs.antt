@@ -1,5 +1,5 @@
 -- A run of text is scanned to its end, and what is scanned to its end is a run.
-use Rattle.std.specs.Prelude.{ℕ, zero, suc, ◌+◌, ◌-◌, ◌≤◌, ◌<◌, ◌≡◌, refl, true, [], ◌∷◌, ◌++◌, eqb, leb, length, drop, get_or}
+use Rattle.std.specs.Prelude.{ℕ, zero, suc, ◌+◌, ◌≤◌, ◌<◌, ◌≡◌, refl, true, [], ◌∷◌, ◌++◌, eqb, leb, length, drop, get_or}
 use Prim.Native.Char.{code}
 use Rattle.std.proofs.Common.{add-zero, not-suc-le-zero, le_of_suc-le-suc, arith, ap, sym, ◌∙◌, subst, append_assoc, eqb-true, leb-true, leb-false, length-append}
 use Rattle.std.proofs.lemmas.Bool.{eqb-false}

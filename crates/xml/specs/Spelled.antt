@@ -1,5 +1,5 @@
 -- What a text spells is tidy; contents one after another; and the written form of a tidy forest spells it.
-use Rattle.std.specs.Prelude.{ℕ, ◌+◌, ◌<◌, ◌≡◌, refl, Bool, true, false, not, [], ◌∷◌, ◌++◌, eqb}
+use Rattle.std.specs.Prelude.{ℕ, ◌+◌, ◌≡◌, refl, Bool, true, false, not, [], ◌∷◌, ◌++◌, eqb}
 use Prim.Native.Char.{code}
 use Rattle.std.proofs.Common.{sym, ◌∙◌, append-nil, eqb-true}
 use Rattle.std.proofs.lemmas.Bool.{eqb-false}

@@ -1,5 +1,5 @@
 -- What a step reads lies in the text: the bytes after the first that it passes, and its wrong byte, or that stands at the end.
-use Rattle.std.specs.Prelude.{◌≡◌, refl, Bool, true, false, [], ◌∷◌, ℕ, suc, ◌+◌, ◌<◌, ◌≤◌, eqb, length, drop, get_or}
+use Rattle.std.specs.Prelude.{◌≡◌, refl, Bool, true, false, [], ◌∷◌, ℕ, suc, ◌+◌, ◌≤◌, eqb, length, drop, get_or}
 use Rattle.std.proofs.Common.{sym, subst, arith, eqb-true, length-drop}
 use Prim.Native.Char.{code}
 use Rattle.std.proofs.lemmas.Bool.{eqb-false}

@@ -1,5 +1,5 @@
 -- Each step of reading keeps the invariant: what has been read spells what is open.
-use Prim.Native.Nat.{ℕ, zero, suc, ◌+◌, ◌-◌, ◌≤◌, ◌<◌}
+use Prim.Native.Nat.{ℕ, zero, suc, ◌+◌, ◌≤◌, ◌<◌}
 use Prim.Native.Char.{code}
 use Rattle.std.proofs.Common.{one-add, ◌∙◌, append_assoc, eqb-true, take-append-drop, drop-cons}
 use native.Mathlib.Omega.{arith}
@@ -10,9 +10,9 @@ use Rattle.std.proofs.lemmas.Bool.{eqb-false}
 use Rattle.std.proofs.Math.ListN.{length, take, drop, get_or, length-append}
 use Rattle.std.proofs.Math.Seq.{length-take-le, split_at, drop-drop}
 use Rattle.xml.specs.Bytes.{Bytes, bytes, all, same, is_name, is_times}
-use Rattle.xml.specs.Forest.{Forest, end, elem, text, join}
+use Rattle.xml.specs.Forest.{Forest, end, elem, join}
 use Rattle.xml.specs.Grammar.{nothing, lone}
-use Rattle.xml.specs.Read.{common, name_len, times_len, named, timed, Stack, inside, Move, move, wrong, times_end, times_of, start_of, start_tag, step}
+use Rattle.xml.specs.Read.{common, name_len, times_len, named, timed, Stack, inside, Move, move, wrong, times_end, times_of, start_of, start_tag}
 use Rattle.xml.specs.Truth.{both_true}
 use Rattle.xml.specs.BytesLaws.{same-is}
 use Rattle.xml.specs.Names.{name-taken, times-taken}

@@ -1,5 +1,5 @@
 -- What stands in a start tag: the tag that it means, how long it is, and that a tag as it is written spells itself.
-use Rattle.std.specs.Prelude.{ℕ, zero, suc, ◌+◌, ◌*◌, ◌≤◌, ◌<◌, ◌≡◌, refl, Bool, true, false, not, ◌&&◌, ◌||◌, List, [], ◌∷◌, ◌++◌, map, eqb, length, take, drop, get_or}
+use Rattle.std.specs.Prelude.{ℕ, zero, suc, ◌+◌, ◌*◌, ◌≤◌, ◌≡◌, refl, Bool, true, false, not, ◌&&◌, ◌||◌, List, [], ◌∷◌, ◌++◌, map, eqb, length, take, drop, get_or}
 use Prim.Native.Char.{code}
 use Rattle.std.proofs.Common.{add-zero, le_of_suc-le-suc, arith, ap, ap₂, sym, ◌∙◌, subst, append_assoc, append-nil, eq-eqb, ne_eqb, eqb-true, length-append, length-drop, get_or-append-add, take-add}
 use Rattle.std.proofs.lemmas.Bool.{eqb-false}

@@ -1,5 +1,5 @@
 -- The attributes of a tag at the places where they stand: each is followed by the next, or by the tag's end.
-use Rattle.std.specs.Prelude.{ℕ, ◌+◌, ◌-◌, ◌≤◌, ◌<◌, ◌≡◌, false, List, [], ◌∷◌, ◌++◌, take, get_or}
+use Rattle.std.specs.Prelude.{ℕ, ◌+◌, ◌≤◌, ◌<◌, ◌≡◌, false, List, [], ◌∷◌, ◌++◌, take, get_or}
 use Prim.Native.Char.{code}
 use Rattle.std.proofs.Common.{add-zero, arith, ◌∙◌, append_assoc, append-nil, length-append, drop-drop, get_or-drop}
 use Rattle.std.proofs.Math.Path.{refl, ap, ap₂, sym, subst}

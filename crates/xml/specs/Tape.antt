@@ -1,7 +1,7 @@
 -- The tape: a forest in memory, two cells a node, in the order of the text. The first cell is start * 131072 + count * 4 + kind, of the
 -- bytes of the text that name the node (an element's name, a timestamp, a run's raw bytes); the second is the number of the first node
 -- after its subtree.
-use Rattle.std.specs.Prelude.{ℕ, ◌+◌, ◌*◌, ◌/◌, ◌%◌, ◌<◌, ◌≤◌, ◌≡◌, List, [], ◌∷◌, ◌++◌, length, get_or}
+use Rattle.std.specs.Prelude.{ℕ, ◌+◌, ◌*◌, ◌/◌, ◌%◌, ◌<◌, ◌≤◌, ◌≡◌, List, length, get_or}
 use Rattle.std.proofs.Math.Seq.{slice}
 use Rattle.xml.specs.Bytes.{Bytes}
 use Rattle.xml.specs.Forest.{Forest, end, elem, text, stamp, write}

@@ -3,7 +3,7 @@ use Rattle.std.specs.Prelude.{◌≡◌, refl, Bool, true, false, ◌&&◌, [], 
 use Rattle.std.proofs.Common.{ap, sym, ◌∙◌, subst, arith, eqb-true, take-append-drop, length-take-le}
 use Prim.Native.Char.{code}
 use Rattle.std.proofs.lemmas.Bool.{eqb-false}
-use Rattle.xml.specs.Bytes.{Bytes, bytes, same, same_by}
+use Rattle.xml.specs.Bytes.{Bytes, bytes, same}
 use Rattle.xml.specs.Truth.{and_left, and_right}
 use Rattle.xml.specs.BytesLaws.{same-is}
 use Rattle.xml.specs.Forest.{Forest, end}

@@ -1,14 +1,14 @@
 -- Words at the start of a text: `common`, entities, and what a byte of a run tells.
-use Rattle.std.specs.Prelude.{ℕ, suc, ◌+◌, ◌<◌, ◌≡◌, refl, Bool, true, false, ◌&&◌, [], ◌∷◌, ◌++◌, eqb, leb, length, drop}
+use Rattle.std.specs.Prelude.{ℕ, suc, ◌+◌, ◌<◌, ◌≡◌, refl, Bool, true, false, ◌&&◌, ◌∷◌, ◌++◌, eqb, leb, length, drop}
 use Prim.Native.Char.{code}
 use Rattle.std.proofs.Common.{arith, ap, sym, ◌∙◌, subst, eq-eqb, eqb-true, leb-false}
 use Rattle.std.proofs.lemmas.Bool.{eqb-false}
 use Rattle.xml.specs.Bytes.{Bytes, bytes, is_legal, is_character}
 use Rattle.xml.specs.Grammar.{Entity, lt, gt, amp, quot, apos}
-use Rattle.xml.specs.Read.{common, further, try, entity_at, text_byte}
+use Rattle.xml.specs.Read.{common, try, entity_at, text_byte}
 use Rattle.xml.specs.Truth.{by-test, clash, both}
 use Rattle.xml.specs.GrammarLaws.{legal-character}
-use Rattle.xml.specs.ScanLaws.{common-cons, common-off, try-hit, try-miss, begins, further-hit}
+use Rattle.xml.specs.ScanLaws.{try-hit, try-miss, begins, further-hit}
 use Rattle.xml.specs.declared.Found.{Found}
 use Rattle.xml.specs.declared.Found.TheVariants.{Hit, Miss}
 use Rattle.xml.specs.declared.Next.{Next}

@@ -1,6 +1,5 @@
 -- `archive_back` meets its contract.
 use Rattle.archive.specs.Entries.{entry-told, entry-long, told-as, back-by-marks, lends-whole}
-use borrow.Author.Rules.{rules}
 use Rattle.firmware.proofs.archive_back.Goals as goal
 
 pub back_short-m-requires : goal.back_short-m-requires

@@ -1,6 +1,5 @@
 -- `archive_back_to_mark` meets its contract.
 use Rattle.archive.specs.Entries.{entry-told, entry-long, told-as, named-by-marks, lends-whole}
-use borrow.Author.Rules.{rules}
 use Rattle.firmware.proofs.archive_back_to_mark.Goals as goal
 
 pub named_short-m-requires : goal.named_short-m-requires

@@ -1,6 +1,5 @@
 -- `archive_find_mark` meets its contract.
 use Rattle.archive.specs.Entries.{find-told}
-use borrow.Author.Rules.{rules}
 use Rattle.firmware.proofs.archive_find_mark.Goals as goal
 
 pub returns-then-archive-le-FEW : goal.returns-then-archive-le-FEW

@@ -1,7 +1,6 @@
 -- `archive_longest_history` meets its contract.
 use Rattle.archive.specs.Giving.{gives-told}
 use Rattle.archive.specs.LongestCall.{longest-from, longest-told}
-use borrow.Author.Rules.{rules}
 use Rattle.firmware.proofs.archive_longest_history.Goals as goal
 
 pub returns : goal.returns

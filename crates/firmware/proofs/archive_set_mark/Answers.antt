@@ -1,6 +1,5 @@
 -- `archive_set_mark` meets its contract.
 use Rattle.archive.specs.Entries.{entry-told, entry-long, told-as, set-by-marks}
-use borrow.Author.Rules.{rules}
 use Rattle.firmware.proofs.archive_set_mark.Goals as goal
 
 pub put_back-requires : goal.put_back-requires

@@ -1,7 +1,6 @@
 -- `put_back` meets its contract.
 use mathlib.Core.Path.{refl, sym}
 use Rattle.archive.specs.Entries.{bytes-kept, bytes-put}
-use borrow.Author.Rules.{rules}
 use Rattle.firmware.proofs.put_back.Goals as goal
 
 pub returns-then-number-ne0 : goal.returns-then-number-ne0

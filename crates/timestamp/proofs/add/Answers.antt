@@ -1,6 +1,5 @@
 -- `timestamp::add` meets its contract.
 use native.Mathlib.Omega.{arith}
-use borrow.Author.Rules.{rules}
 use lib.ListN.{length-set}
 use Rattle.timestamp.specs.Words.{with-set}
 use Rattle.timestamp.proofs.add.Goals as goal

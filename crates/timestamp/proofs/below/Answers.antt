@@ -1,8 +1,7 @@
 -- `timestamp::below` meets its contract.
-use Prim.Native.Nat.{ℕ, ◌+◌, ◌-◌, ◌*◌, ◌^◌, min}
-use mathlib.Core.Path.{◌≡◌, sym, ap, ◌∙◌}
+use Prim.Native.Nat.{ℕ, ◌-◌, ◌*◌, ◌^◌, min}
+use mathlib.Core.Path.{◌≡◌, ap, ◌∙◌}
 use native.Mathlib.Omega.{arith}
-use borrow.Author.Rules.{rules}
 use Rattle.timestamp.proofs.below.Goals as goal
 
 mask_is : (m n k : ℕ) → m ≡ min (n - k * 64) 64 → 2 ^ m - 1 ≡ 2 ^ min (n - k * 64) 64 - 1

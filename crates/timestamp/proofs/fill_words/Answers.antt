@@ -3,7 +3,6 @@ use Prim.Native.Nat.{ℕ, ◌+◌, ◌-◌, ◌*◌, ◌/◌}
 use mathlib.Core.Path.{ap, ◌∙◌}
 use mathlib.Core.Bool.{Bool}
 use native.Mathlib.Omega.{arith}
-use borrow.Author.Rules.{rules}
 use Rattle.timestamp.specs.Set.{set_of, joined, between}
 use Rattle.timestamp.specs.Words.{stored-ones, joined-parts}
 use Rattle.timestamp.proofs.fill_words.Goals as goal

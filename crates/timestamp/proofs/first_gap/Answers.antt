@@ -1,10 +1,9 @@
 -- `timestamp::first_gap` meets its contract. The loop's invariant: no word that is passed lacks a number.
-use Prim.Native.Nat.{ℕ, ◌+◌, ◌*◌, ◌-◌, ◌≤◌}
+use Prim.Native.Nat.{ℕ, ◌+◌, ◌*◌}
 use native.Mathlib.Omega.{arith}
 use mathlib.Core.Path.{◌≡◌, refl, sym, ap, ◌∙◌}
 use lib.Count.{trailing_le}
-use borrow.Author.Rules.{rules}
-use Rattle.timestamp.specs.Set.{set_of, outside, first_in}
+use Rattle.timestamp.specs.Set.{first_in}
 use Rattle.timestamp.specs.Words.{not_at}
 use Rattle.timestamp.specs.First.{whole-found, whole-passed, gap_is}
 use Rattle.timestamp.proofs.first_gap.Goals as goal

@@ -1,12 +1,7 @@
 -- `timestamp::first_gap` meets its contract. The loop's invariant: no word that is passed lacks a number.
-use Prim.Native.Nat.{ℕ, ◌+◌, ◌*◌, ◌-◌, ◌≤◌}
-use native.Mathlib.Omega.{arith}
-use mathlib.Core.Path.{◌≡◌, refl, sym, ap, ◌∙◌}
-use lib.Count.{trailing_le}
-use borrow.Author.Rules.{rules}
+use Prim.Native.Nat.{◌*◌, ◌-◌, ◌≤◌}
+use mathlib.Core.Path.{◌≡◌}
 use Rattle.timestamp.specs.Set.{set_of, outside, first_in}
-use Rattle.timestamp.specs.Words.{not_at}
-use Rattle.timestamp.specs.First.{whole-found, whole-passed, gap_is}
 use Rattle.timestamp.proofs.first_gap.Given as goal
 
 abbrev pub invariant-loop-i : goal.invariant-loop-i

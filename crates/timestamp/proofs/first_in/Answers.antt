@@ -1,11 +1,10 @@
 -- `timestamp::first_in` meets its contract. The loop's invariant: no word that is passed has a member.
-use Prim.Native.Nat.{ℕ, ◌+◌, ◌*◌, ◌-◌, ◌≤◌}
+use Prim.Native.Nat.{ℕ, ◌+◌, ◌*◌}
 use native.Mathlib.Omega.{arith}
 use mathlib.Core.Path.{◌≡◌, refl, sym, ap, ◌∙◌}
 use lib.Count.{trailing_le}
 use lib.ListN.{get_or}
-use borrow.Author.Rules.{rules}
-use Rattle.timestamp.specs.Set.{set_of, first_in}
+use Rattle.timestamp.specs.Set.{first_in}
 use Rattle.timestamp.specs.First.{whole-found, whole-passed, word-is}
 use Rattle.timestamp.proofs.first_in.Goals as goal
 

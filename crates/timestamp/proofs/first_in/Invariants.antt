@@ -1,12 +1,7 @@
 -- `timestamp::first_in` meets its contract. The loop's invariant: no word that is passed has a member.
-use Prim.Native.Nat.{ℕ, ◌+◌, ◌*◌, ◌-◌, ◌≤◌}
-use native.Mathlib.Omega.{arith}
-use mathlib.Core.Path.{◌≡◌, refl, sym, ap, ◌∙◌}
-use lib.Count.{trailing_le}
-use lib.ListN.{get_or}
-use borrow.Author.Rules.{rules}
+use Prim.Native.Nat.{◌*◌, ◌-◌, ◌≤◌}
+use mathlib.Core.Path.{◌≡◌}
 use Rattle.timestamp.specs.Set.{set_of, first_in}
-use Rattle.timestamp.specs.First.{whole-found, whole-passed, word-is}
 use Rattle.timestamp.proofs.first_in.Given as goal
 
 abbrev pub invariant-loop-i : goal.invariant-loop-i

@@ -4,7 +4,6 @@ use native.Mathlib.Omega.{arith}
 use mathlib.Core.Path.{sym, ap, ◌∙◌}
 use lib.Count.{trailing_le}
 use Rattle.timestamp.specs.Words.{not_at}
-use borrow.Author.Rules.{rules}
 use Rattle.timestamp.specs.First.{word-found, word-passed, gap_is}
 use Rattle.timestamp.proofs.gap_in.Goals as goal
 

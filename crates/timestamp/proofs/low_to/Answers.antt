@@ -3,7 +3,6 @@ use Prim.Native.Nat.{ℕ, ◌+◌, ◌-◌, ◌/◌, ◌^◌, ◌<◌}
 use mathlib.Core.Path.{◌≡◌, sym, ap, ◌∙◌}
 use native.Mathlib.Omega.{arith}
 use lib.Pow.{ones_split, ones_lt, high}
-use borrow.Author.Rules.{rules}
 use Rattle.timestamp.proofs.low_to.Goals as goal
 
 ones_above : (j : ℕ) → j < 64 → (2 ^ 64 - 1) / 2 ^ (63 - j) ≡ 2 ^ (j + 1) - 1

@@ -1,7 +1,6 @@
 -- `timestamp::lowest` meets its contract.
 use native.Mathlib.Omega.{arith}
 use lib.Count.{trailing_le}
-use borrow.Author.Rules.{rules}
 use Rattle.timestamp.proofs.lowest.Goals as goal
 
 pub overflow_cast-result : goal.overflow_cast-result

@@ -4,7 +4,6 @@ use native.Mathlib.Omega.{arith}
 use mathlib.Core.Path.{sym, ap, ◌∙◌}
 use lib.Count.{trailing_le}
 use lib.ListN.{get_or}
-use borrow.Author.Rules.{rules}
 use Rattle.timestamp.specs.First.{word-found, word-passed, word-is}
 use Rattle.timestamp.proofs.next_in.Goals as goal
 

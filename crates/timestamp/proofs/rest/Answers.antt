@@ -3,7 +3,6 @@ use Prim.Native.Nat.{◌+◌, ◌-◌}
 use mathlib.Core.Path.{◌≡◌, refl}
 use native.Mathlib.Omega.{arith}
 use lib.Pow.{shr_lt}
-use borrow.Author.Rules.{rules}
 use Rattle.timestamp.proofs.rest.Goals as goal
 
 pub returns : goal.returns

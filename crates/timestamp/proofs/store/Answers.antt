@@ -1,9 +1,7 @@
 -- `timestamp::store` meets its contract. The loop's invariant: the words before k are set (`Stored`).
-use Prim.Native.Nat.{◌-◌, ◌≤◌}
 use mathlib.Core.Path.{◌≡◌}
 use native.Mathlib.Omega.{arith}
-use borrow.Author.Rules.{rules}
-use Rattle.timestamp.specs.Words.{Stored, stored-none, stored_more}
+use Rattle.timestamp.specs.Words.{stored-none, stored_more}
 use Rattle.timestamp.proofs.store.Goals as goal
 
 pub loop-k-init : goal.loop-k-init

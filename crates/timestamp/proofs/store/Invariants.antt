@@ -1,9 +1,6 @@
 -- `timestamp::store` meets its contract. The loop's invariant: the words before k are set (`Stored`).
 use Prim.Native.Nat.{◌-◌, ◌≤◌}
-use mathlib.Core.Path.{◌≡◌}
-use native.Mathlib.Omega.{arith}
-use borrow.Author.Rules.{rules}
-use Rattle.timestamp.specs.Words.{Stored, stored-none, stored_more}
+use Rattle.timestamp.specs.Words.{Stored}
 use Rattle.timestamp.proofs.store.Given as goal
 
 abbrev pub invariant-loop-k : goal.invariant-loop-k

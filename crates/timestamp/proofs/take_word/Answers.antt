@@ -2,7 +2,6 @@
 use Prim.Native.Nat.{ℕ}
 use mathlib.Core.Path.{refl, ap}
 use lib.Dec.{eqb}
-use borrow.Author.Rules.{rules}
 use Rattle.timestamp.proofs.take_word.Goals as goal
 
 pub returns : goal.returns

@@ -1,11 +1,8 @@
 -- `timestamp::take_words` meets its contract. The loop's invariant: the words before k are done, and had all (`Taking`).
-use Prim.Native.Nat.{ℕ, ◌+◌, ◌-◌, ◌/◌, ◌≤◌}
-use mathlib.Core.Path.{◌≡◌, ap₂}
+use mathlib.Core.Path.{ap₂}
 use native.Mathlib.Omega.{arith}
 use lib.Bits.{bit_xor}
-use Rattle.xml.specs.SameTapes.{not-true, not-false}
-use Rattle.timestamp.specs.Words.{range_word}
-use Rattle.timestamp.specs.Taken.{Taking, taking-start, run-lacks, run_more, run-all}
+use Rattle.timestamp.specs.Taken.{taking-start, run-lacks, run_more, run-all}
 use Rattle.timestamp.proofs.take_words.Goals as goal
 
 pub loop-k-init : goal.loop-k-init

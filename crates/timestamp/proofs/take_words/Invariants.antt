@@ -1,11 +1,7 @@
 -- `timestamp::take_words` meets its contract. The loop's invariant: the words before k are done, and had all (`Taking`).
-use Prim.Native.Nat.{ℕ, ◌+◌, ◌-◌, ◌/◌, ◌≤◌}
-use mathlib.Core.Path.{◌≡◌, ap₂}
-use native.Mathlib.Omega.{arith}
-use lib.Bits.{bit_xor}
-use Rattle.xml.specs.SameTapes.{not-true, not-false}
+use Prim.Native.Nat.{◌+◌, ◌-◌, ◌/◌, ◌≤◌}
 use Rattle.timestamp.specs.Words.{range_word}
-use Rattle.timestamp.specs.Taken.{Taking, taking-start, run-lacks, run_more, run-all}
+use Rattle.timestamp.specs.Taken.{Taking}
 use Rattle.timestamp.proofs.take_words.Given as goal
 
 abbrev pub invariant-loop-k : goal.invariant-loop-k

@@ -5,9 +5,7 @@ use mathlib.Core.Path.{◌≡◌, refl, sym, ◌∙◌, ap}
 use mathlib.Core.Bool.{true}
 use mathlib.Core.Option.{Option}
 use lib.ListN.{length}
-use borrow.Author.Rules.{rules}
 use borrow.Rule.Slice.PartMut.{put_mid}
-use borrow.Author.Tests.{not-true, not-false}
 use Rattle.xml.specs.Bytes.{Bytes}
 use Rattle.xml.specs.Forest.{Forest}
 use Rattle.xml.specs.OverLaws.{length_at, lent_back}
@@ -23,7 +21,7 @@ use Rattle.adding.specs.Growth.{Grew, grew-lent}
 use Rattle.versions.specs.TimedLaws.{says-set}
 use Rattle.versions.specs.AddWalk.{Held, Both, at_front, at_forward, at_place}
 use Rattle.adding.specs.AddWay.{Way, way-none, way-old, way-new, way-both, way-done, next_of, other_of, order_at, order-at, order_same, there, both_of, both-grew, inside-above, inside-front, room-more, room-inner, room-outer, inner-held, opening-short, closing-short}
-use Prim.Native.Nat.{ℕ, ◌+◌, ◌*◌, ◌-◌, ◌<◌, ◌≤◌}
+use Prim.Native.Nat.{◌+◌, ◌*◌, ◌-◌, ◌<◌, ◌≤◌}
 use Rattle.adding.proofs.add.+write_added_write_both.Goals as goal
 
 pub write_added-is_above-requires : goal.write_added-is_above-requires

@@ -1,29 +1,16 @@
 -- `write_added` and `write_both` meet their contracts: of the siblings before nodes p and q all is written, each into the part of the output
 -- that it was lent, and what is left to add is what they add to.
-use native.Mathlib.Omega.{arith}
-use mathlib.Core.Path.{◌≡◌, refl, sym, ◌∙◌, ap}
+use mathlib.Core.Path.{◌≡◌}
 use mathlib.Core.Bool.{true}
-use mathlib.Core.Option.{Option}
 use lib.ListN.{length}
-use borrow.Author.Rules.{rules}
-use borrow.Rule.Slice.PartMut.{put_mid}
-use borrow.Author.Tests.{not-true, not-false}
-use Rattle.xml.specs.Bytes.{Bytes}
 use Rattle.xml.specs.Forest.{Forest}
-use Rattle.xml.specs.OverLaws.{length_at, lent_back}
 use Rattle.xml.specs.Tape.{next_at}
-use Rattle.xml.specs.TapeLaws.{front, tape-le}
 use Rattle.keys.specs.KeyList.{Path, KeyList, above}
-use Rattle.keys.specs.Version.{◌▸◌, label}
-use Rattle.keys.specs.Table.{place_of, Table}
 use Rattle.timestamp.specs.Times.{Times}
-use Rattle.versions.specs.Walk.{first_label, add_in}
-use Rattle.versions.specs.AddParts.{sibling, set_in, both_part, inside, place_in, At}
-use Rattle.adding.specs.Growth.{Grew, grew-lent}
-use Rattle.versions.specs.TimedLaws.{says-set}
-use Rattle.versions.specs.AddWalk.{Held, Both, at_front, at_forward, at_place}
-use Rattle.adding.specs.AddWay.{Way, way-none, way-old, way-new, way-both, way-done, next_of, other_of, order_at, order-at, order_same, there, both_of, both-grew, inside-above, inside-front, room-more, room-inner, room-outer, inner-held, opening-short, closing-short}
-use Prim.Native.Nat.{ℕ, ◌+◌, ◌*◌, ◌-◌, ◌<◌, ◌≤◌}
+use Rattle.versions.specs.Walk.{add_in}
+use Rattle.versions.specs.AddWalk.{Held}
+use Rattle.adding.specs.AddWay.{Way}
+use Prim.Native.Nat.{◌+◌, ◌*◌, ◌-◌, ◌≤◌}
 use Rattle.adding.proofs.add.+write_added_write_both.Given as goal
 
 abbrev pub decreases-write_added : goal.decreases-write_added

@@ -1,7 +1,6 @@
 -- `add` meets its contract: the outer `T` around what its inside comes to hold. Assumes nothing.
 use native.Mathlib.Omega.{arith}
 use mathlib.Core.List.{[]}
-use borrow.Author.Rules.{rules}
 use Rattle.xml.specs.Bytes.{bytes}
 use Rattle.timestamp.specs.Times.{always}
 use Rattle.timestamp.specs.Set.{set_of}

@@ -2,7 +2,6 @@
 use Prim.Native.Nat.{◌+◌}
 use native.Mathlib.Omega.{arith}
 use mathlib.Core.Path.{sym, ◌∙◌, ap}
-use borrow.Author.Rules.{rules}
 use Rattle.xml.specs.Forest.{nodes}
 use Rattle.xml.specs.TapeLaws.{length-write, tape-le}
 use Rattle.versions.specs.TimedLaws.{says-text}

@@ -1,18 +1,12 @@
 -- `write_branches` meets its contract: the contents before node p are written as they stood, and none is the version's. Assumes nothing.
 use Prim.Native.Nat.{◌+◌, ◌*◌, ◌-◌, ◌≤◌}
-use native.Mathlib.Omega.{arith}
-use mathlib.Core.Path.{◌≡◌, refl, sym, ◌∙◌, ap}
+use mathlib.Core.Path.{◌≡◌}
 use lib.ListN.{length}
-use Rattle.xml.specs.Forest.{Forest, nodes}
-use Rattle.xml.specs.OverLaws.{length_at}
-use Rattle.xml.specs.Tape.{Tape, head_at, start_in, end_in}
-use Rattle.xml.specs.TapeLaws.{Front, bytes_at, front, length-write, tape-le}
-use Rattle.timestamp.specs.Set.{adding}
-use Rattle.timestamp.specs.Listed.{text_of}
-use Rattle.versions.specs.Walk.{times_in, add_branch}
-use Rattle.versions.specs.TimedLaws.{legal-says, says-more, says-set}
-use Rattle.versions.specs.AddParts.{Says, BranchesIn}
-use Rattle.versions.specs.AddFront.{SomeBranches, branches-valid, branches-set, branches-rest, Passing, passing-none, passing-more, passing-same, passing-done, plain-count, valid-inside, valid-first}
+use Rattle.xml.specs.Forest.{Forest}
+use Rattle.xml.specs.Tape.{Tape}
+use Rattle.versions.specs.Walk.{add_branch}
+use Rattle.versions.specs.AddParts.{BranchesIn}
+use Rattle.versions.specs.AddFront.{SomeBranches, Passing}
 use Rattle.adding.proofs.content.write_branches.Given as goal
 
 abbrev pub invariant-loop-p : goal.invariant-loop-p

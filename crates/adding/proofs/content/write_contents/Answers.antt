@@ -1,10 +1,8 @@
 -- `write_contents` meets its contract: the first node says whether there is one content or more. Assumes nothing.
 use mathlib.Core.Path.{◌≡◌, sym, ◌∙◌}
-use mathlib.Core.Bool.{true, false, ◌&&◌}
-use lib.Dec.{eqb, ltb}
-use borrow.Author.Rules.{rules}
+use lib.Dec.{ltb}
 use borrow.Author.Tests.{ltb-true, eqb-true, lt-ltb, eq-eqb}
-use Prim.Native.Nat.{ℕ, ◌%◌, ◌<◌}
+use Prim.Native.Nat.{◌%◌, ◌<◌}
 use Rattle.xml.specs.Tape.{head_at}
 use Rattle.xml.specs.TapeLaws.{front}
 use Rattle.xml.specs.Truth.{clash, and_left, and_right, and_both}

@@ -8,7 +8,6 @@ use Rattle.xml.specs.OverLaws.{wrote_none}
 use Rattle.xml.specs.TapeLaws.{closing}
 use Rattle.versions.specs.AddParts.{closed}
 use Rattle.versions.specs.AddWalk.{timed-by, bare-by}
-use borrow.Author.Rules.{rules}
 use Rattle.adding.proofs.sibling.close_set.Goals as goal
 
 pub returns-then-v-eq2 : goal.returns-then-v-eq2

@@ -3,7 +3,6 @@ use native.Mathlib.Omega.{arith}
 use mathlib.Core.Path.{◌≡◌, refl}
 use mathlib.Core.Bool.{true, false}
 use mathlib.Core.List.{[], ◌∷◌, ◌++◌}
-use borrow.Author.Rules.{rules}
 use Rattle.xml.specs.TapeLaws.{opening}
 use Rattle.xml.specs.OverLaws.{wrote_none}
 use Rattle.timestamp.specs.Times.{write_times}

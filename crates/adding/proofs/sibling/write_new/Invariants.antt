@@ -1,18 +1,13 @@
 -- `write_new` meets its contract: the elements before q are written.
 use Prim.Native.Nat.{◌+◌, ◌*◌, ◌-◌, ◌≤◌}
-use native.Mathlib.Omega.{arith}
-use mathlib.Core.Path.{◌≡◌, refl, ◌∙◌, ap}
+use mathlib.Core.Path.{◌≡◌}
 use lib.ListN.{length}
-use borrow.Author.Rules.{rules}
 use Rattle.xml.specs.Forest.{Forest}
-use Rattle.xml.specs.OverLaws.{length_at, lent_back}
 use Rattle.xml.specs.Tape.{Tape, Valid}
-use Rattle.xml.specs.TapeLaws.{Front, front, tape-le}
 use Rattle.keys.specs.KeyList.{Path, KeyList}
 use Rattle.versions.specs.Walk.{add_new}
 use Rattle.versions.specs.AddParts.{VersionIn}
-use Rattle.versions.specs.AddFront.{valid-first, valid-rest}
-use Rattle.versions.specs.AddWalk.{Newer, newer-none, newer-more, newer-done}
+use Rattle.versions.specs.AddWalk.{Newer}
 use Rattle.adding.proofs.sibling.write_new.Given as goal
 
 abbrev pub invariant-loop-q : goal.invariant-loop-q

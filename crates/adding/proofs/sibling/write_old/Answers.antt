@@ -1,7 +1,6 @@
 -- `write_old` meets its contract. Assumes nothing.
 use native.Mathlib.Omega.{arith}
 use mathlib.Core.Path.{◌≡◌, refl}
-use borrow.Author.Rules.{rules}
 use Rattle.xml.specs.Forest.{end, stamp}
 use Rattle.xml.specs.TapeLaws.{front, length-write}
 use Rattle.timestamp.specs.Times.{write_times}

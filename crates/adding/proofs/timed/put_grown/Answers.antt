@@ -4,7 +4,6 @@ use native.Mathlib.Omega.{arith}
 use mathlib.Core.Path.{◌≡◌}
 use mathlib.Core.Bool.{Bool}
 use mathlib.Core.List.{◌++◌}
-use borrow.Author.Rules.{rules}
 use lib.Seq.{slice, length-slice}
 use Rattle.timestamp.specs.Set.{adding}
 use Rattle.timestamp.specs.Listed.{text_of}
@@ -19,21 +18,19 @@ grown-change-requires c = rw (part_slice c.args.a c.args.e c.args.src.now c.requ
 
 pub put_changed-requires : goal.put_changed-requires
 put_changed-requires c =
-    let change : Changes (slice c.args.a c.args.e c.args.src.now) (adding (c.args.n + 1)) (c.args.n + 1) c.grown-change.result.to c.grown-change.result.tail = rw (part_slice c.args.a c.args.e c.args.src.now c.requires.0) at c.grown-change.ensures in
-    (
-  omega (arith, change.inside, length-slice c.args.a c.args.e c.args.src.now c.requires.1),
-  change-short (slice c.args.a c.args.e c.args.src.now) c.requires.3.s c.requires.3.is change,
-  change.known,
-  omega arith,
-  omega arith,
-  omega arith,
-)
+    let change : Changes (slice c.args.a c.args.e c.args.src.now) (adding (c.args.n + 1)) (c.args.n + 1) c.grown-change.result.to c.grown-change.result.tail = rw (part_slice c.args.a c.args.e c.args.src.now c.requires.0) at c.grown-change.ensures in (
+      omega (arith, change.inside, length-slice c.args.a c.args.e c.args.src.now c.requires.1),
+      change-short (slice c.args.a c.args.e c.args.src.now) c.requires.3.s c.requires.3.is change,
+      change.known,
+      omega arith,
+      omega arith,
+      omega arith,
+    )
 
 pub returns : goal.returns
 returns c =
     let change : Changes (slice c.args.a c.args.e c.args.src.now) (adding (c.args.n + 1)) (c.args.n + 1) c.grown-change.result.to c.grown-change.result.tail = rw (part_slice c.args.a c.args.e c.args.src.now c.requires.0) at c.grown-change.ensures in
-    let becomes : (s : ℕ → Bool) → parsed (slice c.args.a c.args.e c.args.src.now) ≡ accepted s → text_of (adding (c.args.n + 1) s) ≡ slice c.args.a (c.args.a + c.grown-change.result.to) c.args.src.now ++ tail_text c.grown-change.result.tail (c.args.n + 1) = λ s f. changed-text c.args.a c.args.e c.args.src.now s c.requires.0 c.requires.1 f (change) in
-    (
-  λ s f. rw (← becomes s f) at c.put_changed.ensures,
-  times-room (adding (c.args.n + 1) c.requires.3.s) (rw (← becomes c.requires.3.s c.requires.3.is) at c.put_changed.ensures),
-)
+    let becomes : (s : ℕ → Bool) → parsed (slice c.args.a c.args.e c.args.src.now) ≡ accepted s → text_of (adding (c.args.n + 1) s) ≡ slice c.args.a (c.args.a + c.grown-change.result.to) c.args.src.now ++ tail_text c.grown-change.result.tail (c.args.n + 1) = λ s f. changed-text c.args.a c.args.e c.args.src.now s c.requires.0 c.requires.1 f (change) in (
+      λ s f. rw (← becomes s f) at c.put_changed.ensures,
+      times-room (adding (c.args.n + 1) c.requires.3.s) (rw (← becomes c.requires.3.s c.requires.3.is) at c.put_changed.ensures),
+    )

@@ -1,7 +1,6 @@
 -- `adding::timed::put_more` meets its contract: the tags, and the nodes between them. Assumes nothing.
 use Prim.Native.Nat.{◌+◌}
 use native.Mathlib.Omega.{arith}
-use borrow.Author.Rules.{rules}
 use Rattle.xml.specs.Bytes.{bytes}
 use Rattle.xml.specs.TapeLaws.{length-write}
 use Rattle.timestamp.specs.Set.{adding}

@@ -1,7 +1,6 @@
 -- `adding::timed::put_within` meets its contract: the tags, and the nodes between them. Assumes nothing.
 use Prim.Native.Nat.{◌+◌, ◌≤◌}
 use native.Mathlib.Omega.{arith}
-use borrow.Author.Rules.{rules}
 use lib.ListN.{length-append}
 use lib.Seq.{slice, length-slice}
 use Rattle.xml.specs.Bytes.{bytes}

@@ -1,7 +1,6 @@
 -- `add_to` meets its contract.
 use Rattle.archive.specs.OpenedLaws.{opened-done, opened-illegal}
 use Rattle.archive.specs.AddCall.{some-adding, add-given, add-10}
-use borrow.Author.Rules.{rules}
 use Rattle.archive.proofs.add.add_to.Goals as goal
 
 pub give_grown-requires : goal.give_grown-requires

@@ -1,7 +1,6 @@
 -- `give_draft` meets its contract: a size that is not refused lies on the draft.
 use native.Mathlib.Omega.{arith}
 use Rattle.archive.specs.AddCall.{stored-small, store-refused, store-done}
-use borrow.Author.Rules.{rules}
 use Rattle.archive.proofs.add.give_draft.Goals as goal
 
 pub returns-then-number-ne0 : goal.returns-then-number-ne0

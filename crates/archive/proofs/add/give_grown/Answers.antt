@@ -1,6 +1,5 @@
 -- `give_grown` meets its contract.
 use Rattle.archive.specs.AddCall.{add-11, not_last, add-stored}
-use borrow.Author.Rules.{rules}
 use Rattle.archive.proofs.add.give_grown.Goals as goal
 
 pub returns-then-n-eq999 : goal.returns-then-n-eq999

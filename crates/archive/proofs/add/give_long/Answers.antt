@@ -1,6 +1,5 @@
 -- `give_long` meets its contract.
 use Rattle.versions.specs.Walk.{add_forest}
-use borrow.Author.Rules.{rules}
 use Rattle.archive.proofs.add.give_long.Goals as goal
 
 pub write_grown-size-requires : goal.write_grown-size-requires

@@ -1,7 +1,5 @@
 -- `give_short` meets its contract.
-use native.Mathlib.Omega.{arith}
 use Rattle.versions.specs.Walk.{add_forest}
-use borrow.Author.Rules.{rules}
 use Rattle.archive.proofs.add.give_short.Goals as goal
 
 pub write_grown-size-requires : goal.write_grown-size-requires

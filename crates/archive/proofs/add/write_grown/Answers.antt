@@ -1,7 +1,6 @@
 -- `write_grown` meets its contract, by what `add` ensures.
 use native.Mathlib.Omega.{arith}
 use Rattle.archive.specs.AddCall.{adding-few, grown-draft}
-use borrow.Author.Rules.{rules}
 use Rattle.archive.proofs.add.write_grown.Goals as goal
 
 pub add-x-requires : goal.add-x-requires

@@ -1,7 +1,6 @@
 -- `back_in` meets its contract: the archive is refused, or lies on the tape.
 use Rattle.archive.specs.BackCall.{back-sent-back, back-on-tape}
 use Rattle.archive.specs.Opening.{opened-lies}
-use borrow.Author.Rules.{rules}
 use Rattle.archive.proofs.back.back_in.Goals as goal
 
 pub returns-then-o-ne0 : goal.returns-then-o-ne0

@@ -1,7 +1,6 @@
 -- `back_to_mark_in` meets its contract: the archive is refused, or lies on the tape.
 use Rattle.archive.specs.BackCall.{named-sent-back, named-on-tape}
 use Rattle.archive.specs.Opening.{opened-lies}
-use borrow.Author.Rules.{rules}
 use Rattle.archive.proofs.back.back_to_mark_in.Goals as goal
 
 pub returns-then-o-ne0 : goal.returns-then-o-ne0

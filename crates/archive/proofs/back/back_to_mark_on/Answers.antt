@@ -2,7 +2,6 @@
 use native.Mathlib.Omega.{arith}
 use lib.ListN.{length}
 use Rattle.archive.specs.MarkCalls.{steps-1, steps_all}
-use borrow.Author.Rules.{rules}
 use Rattle.archive.proofs.back.back_to_mark_on.Goals as goal
 
 pub returns-then-work-lt16384 : goal.returns-then-work-lt16384

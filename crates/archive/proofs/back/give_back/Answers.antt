@@ -1,6 +1,5 @@
 -- `give_back` meets its contract: a law for each answer (BackCall).
 use Rattle.archive.specs.BackCall.{back-illegal, back-given}
-use borrow.Author.Rules.{rules}
 use Rattle.archive.proofs.back.give_back.Goals as goal
 
 pub returns-then-number-ne0 : goal.returns-then-number-ne0

@@ -2,7 +2,6 @@
 use Rattle.archive.specs.Giving.{give-lacks, give-fits}
 use Rattle.archive.specs.Asking.{asked-none, asked-past, asked-there}
 use Rattle.archive.specs.BackCall.{earlier_text, back-asks}
-use borrow.Author.Rules.{rules}
 use Rattle.archive.proofs.back.give_earlier.Goals as goal
 
 pub returns-then-i-lt1 : goal.returns-then-i-lt1

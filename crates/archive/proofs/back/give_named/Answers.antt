@@ -1,6 +1,5 @@
 -- `give_named` meets its contract: a law for each answer (BackCall).
 use Rattle.archive.specs.BackCall.{named-refused, named-given}
-use borrow.Author.Rules.{rules}
 use Rattle.archive.proofs.back.give_named.Goals as goal
 
 pub returns-then-found-ne0 : goal.returns-then-found-ne0

@@ -6,7 +6,6 @@ use lib.ListN.{length}
 use borrow.Author.Tests.{le-ltb}
 use Rattle.xml.specs.OverLaws.{wrote-over}
 use Rattle.archive.specs.BackCall.{earlier_text, back-asks, back-short}
-use borrow.Author.Rules.{rules}
 use Rattle.archive.proofs.back.lacks_room.Goals as goal
 
 pub returns-then-src-size : goal.returns-then-src-size

@@ -1,6 +1,5 @@
 -- `check_keys` meets its contract: a law for each answer (CheckLaws).
 use Rattle.archive.specs.CheckLaws.{check-0, check-1, check-2, check-3, check-4, load-table, load-noted, load_kept}
-use borrow.Author.Rules.{rules}
 use Rattle.archive.proofs.check_keys.check_keys.Goals as goal
 
 pub returns-then-work-lt16384 : goal.returns-then-work-lt16384

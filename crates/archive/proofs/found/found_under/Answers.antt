@@ -2,7 +2,6 @@
 use Rattle.archive.specs.Reception.{received-done, received-back}
 use Rattle.archive.specs.Giving.{version-back}
 use Rattle.archive.specs.FoundLaws.{first_on, found-given}
-use borrow.Author.Rules.{rules}
 use Rattle.archive.proofs.found.found_under.Goals as goal
 
 pub give_first-requires : goal.give_first-requires

@@ -2,7 +2,6 @@
 use Rattle.xml.specs.Forest.{write}
 use Rattle.archive.specs.Founding.{first_text}
 use Rattle.archive.specs.Giving.{give-lacks, give-fits}
-use borrow.Author.Rules.{rules}
 use Rattle.archive.proofs.found.give_first.Goals as goal
 
 pub returns-then-lacks_room : goal.returns-then-lacks_room

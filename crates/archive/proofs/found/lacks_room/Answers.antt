@@ -8,7 +8,6 @@ use Rattle.xml.specs.Forest.{write}
 use Rattle.xml.specs.OverLaws.{wrote-over}
 use Rattle.archive.specs.Founding.{first_text}
 use Rattle.archive.specs.FoundLaws.{first_short}
-use borrow.Author.Rules.{rules}
 use Rattle.archive.proofs.found.lacks_room.Goals as goal
 
 pub returns-then-size-ge16397 : goal.returns-then-size-ge16397

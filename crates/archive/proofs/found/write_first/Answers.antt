@@ -2,7 +2,6 @@
 use native.Mathlib.Omega.{arith}
 use Rattle.xml.specs.Bytes.{bytes}
 use Rattle.xml.specs.OverLaws.{wrote_then}
-use borrow.Author.Rules.{rules}
 use Rattle.archive.proofs.found.write_first.Goals as goal
 
 pub put_word-requires : goal.put_word-requires

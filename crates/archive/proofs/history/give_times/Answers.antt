@@ -2,7 +2,6 @@
 use Rattle.xml.specs.OverLaws.{wrote-over}
 use Rattle.versions.specs.Walk.{history_forest}
 use Rattle.archive.specs.Giving.{give-short, give-done}
-use borrow.Author.Rules.{rules}
 use Rattle.archive.proofs.history.give_times.Goals as goal
 
 pub returns-then-out-count : goal.returns-then-out-count

@@ -1,7 +1,6 @@
 -- `history_in` meets its contract: a law for each answer (Giving).
 use Rattle.archive.specs.CheckLaws.{load-table, load-noted, load_kept}
 use Rattle.archive.specs.Giving.{step_ok, too_long, not-long, keys-3, keys-4}
-use borrow.Author.Rules.{rules}
 use Rattle.archive.proofs.history.history_in.Goals as goal
 
 pub returns-then-keys-gt4096 : goal.returns-then-keys-gt4096

@@ -1,6 +1,5 @@
 -- `history_on` meets its contract.
 use Rattle.archive.specs.HistoryCall.{history-asked, history-found, history-12}
-use borrow.Author.Rules.{rules}
 use Rattle.archive.proofs.history.history_on.Goals as goal
 
 pub parse_address-steps-requires : goal.parse_address-steps-requires

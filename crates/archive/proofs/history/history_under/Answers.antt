@@ -2,7 +2,6 @@
 use Rattle.archive.specs.Giving.{step_ok}
 use Rattle.archive.specs.OpenedLaws.{opened-done, opened-illegal, archive-10}
 use Rattle.archive.specs.HistoryCall.{some-archive}
-use borrow.Author.Rules.{rules}
 use Rattle.archive.proofs.history.history_under.Goals as goal
 
 pub history_on-requires : goal.history_on-requires

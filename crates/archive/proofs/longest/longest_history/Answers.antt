@@ -3,7 +3,6 @@ use native.Mathlib.Omega.{arith}
 use lib.ListN.{length}
 use Rattle.archive.specs.Giving.{ends-1, ends}
 use Rattle.archive.specs.LongestCall.{longest-from, longest-ends}
-use borrow.Author.Rules.{rules}
 use Rattle.archive.proofs.longest.longest_history.Goals as goal
 
 pub returns-then-work-lt16384 : goal.returns-then-work-lt16384

@@ -3,7 +3,6 @@ use Rattle.timestamp.specs.Times.{write_times}
 use Rattle.timestamp.specs.Longest.{longest}
 use Rattle.archive.specs.Giving.{give-lacks, give-fits}
 use Rattle.archive.specs.Asking.{asked-none, asked-past, asked-there}
-use borrow.Author.Rules.{rules}
 use Rattle.archive.proofs.longest.longest_in.Goals as goal
 
 pub returns-then-n-lt1 : goal.returns-then-n-lt1

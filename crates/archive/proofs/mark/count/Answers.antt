@@ -2,7 +2,6 @@
 use native.Mathlib.Omega.{arith}
 use lib.ListN.{length}
 use Rattle.archive.specs.MarkCalls.{counts-1, counts_all}
-use borrow.Author.Rules.{rules}
 use Rattle.archive.proofs.mark.count.Goals as goal
 
 pub returns-then-work-lt16384 : goal.returns-then-work-lt16384

@@ -1,7 +1,6 @@
 -- `open_in` meets its contract: a law for each answer (Opening).
 use Rattle.archive.specs.CheckLaws.{load-table, load-noted, load_kept}
 use Rattle.archive.specs.Opening.{opened-2, opened-2-archive, opened-3, opened-4, opened-as}
-use borrow.Author.Rules.{rules}
 use Rattle.archive.proofs.opened.open_in.Goals as goal
 
 pub returns-then-keys-gt4096 : goal.returns-then-keys-gt4096

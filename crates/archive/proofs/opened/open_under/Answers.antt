@@ -3,7 +3,6 @@ use mathlib.Core.Path.{refl}
 use lib.Dec.{lit≤}
 use Rattle.archive.specs.OpenedLaws.{opened-done, opened-illegal}
 use Rattle.archive.specs.Opening.{illegal, legal}
-use borrow.Author.Rules.{rules}
 use Rattle.archive.proofs.opened.open_under.Goals as goal
 
 pub returns-in-Done : goal.returns-in-Done

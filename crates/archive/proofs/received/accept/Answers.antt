@@ -1,7 +1,6 @@
 -- `accept` meets its contract: a law for each answer (Reception).
 use Rattle.archive.specs.Reception.{walked, sent-6, sent-7, sent-8, sent-9, received, arrange-fit, arranged-done, arranged-double}
 use native.Mathlib.Omega.{arith}
-use borrow.Author.Rules.{rules}
 use Rattle.archive.proofs.received.accept.Goals as goal
 
 pub too_large-requires : goal.too_large-requires

@@ -1,7 +1,6 @@
 -- `receive` meets its contract: a text of white space alone is vacant; of any other a tape of a cell a byte is never too short.
 use native.Mathlib.Omega.{arith}
 use Rattle.archive.specs.Reception.{white-tells, none-there, read_done, read-wrong, read-full, sent-5}
-use borrow.Author.Rules.{rules}
 use Rattle.archive.proofs.received.receive.Goals as goal
 
 pub returns-then-is_white : goal.returns-then-is_white

@@ -3,7 +3,6 @@ use Rattle.versions.specs.VersionText.{version_text}
 use Rattle.archive.specs.Giving.{give-lacks, give-fits}
 use Rattle.archive.specs.Asking.{asked-none, asked-past, asked-there}
 use Rattle.archive.specs.RetrieveLaws.{version-asks}
-use borrow.Author.Rules.{rules}
 use Rattle.archive.proofs.retrieve.give_version.Goals as goal
 
 pub returns-then-i-lt1 : goal.returns-then-i-lt1

@@ -7,7 +7,6 @@ use borrow.Author.Tests.{le-ltb}
 use Rattle.xml.specs.OverLaws.{wrote-over}
 use Rattle.versions.specs.VersionText.{version_text}
 use Rattle.archive.specs.RetrieveLaws.{version-asks, version-short}
-use borrow.Author.Rules.{rules}
 use Rattle.archive.proofs.retrieve.lacks_room.Goals as goal
 
 pub returns-then-src-size : goal.returns-then-src-size

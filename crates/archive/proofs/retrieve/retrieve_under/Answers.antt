@@ -2,7 +2,6 @@
 use Rattle.versions.specs.VersionText.{version_text}
 use Rattle.archive.specs.OpenedLaws.{opened-done, opened-illegal, archive-10}
 use Rattle.archive.specs.Asking.{opened-lies, asked-given}
-use borrow.Author.Rules.{rules}
 use Rattle.archive.proofs.retrieve.retrieve_under.Goals as goal
 
 pub give_version-requires : goal.give_version-requires

@@ -1,7 +1,6 @@
 -- `add_short` meets its contract.
 use Rattle.archive.specs.AddCall.{add-from}
 use Rattle.archive.specs.Giving.{gives-told}
-use borrow.Author.Rules.{rules}
 use Rattle.firmware.proofs.cells.add_short.Goals as goal
 
 pub returns : goal.returns

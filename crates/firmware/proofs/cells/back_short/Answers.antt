@@ -2,7 +2,6 @@
 use native.Mathlib.Omega.{arith}
 use Rattle.archive.specs.FewCells.{back-few}
 use Rattle.archive.specs.MarkCalls.{marked-as}
-use borrow.Author.Rules.{rules}
 use Rattle.firmware.proofs.cells.back_short.Goals as goal
 
 pub back_in-b-requires : goal.back_in-b-requires

@@ -1,6 +1,5 @@
 -- `find_short` meets its contract.
 use Rattle.archive.specs.FewCells.{find-few}
-use borrow.Author.Rules.{rules}
 use Rattle.firmware.proofs.cells.find_short.Goals as goal
 
 pub returns : goal.returns

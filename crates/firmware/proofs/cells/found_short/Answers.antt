@@ -1,7 +1,6 @@
 -- `found_short` meets its contract.
 use Rattle.archive.specs.FoundLaws.{founds}
 use Rattle.archive.specs.Giving.{gives-told}
-use borrow.Author.Rules.{rules}
 use Rattle.firmware.proofs.cells.found_short.Goals as goal
 
 pub returns : goal.returns

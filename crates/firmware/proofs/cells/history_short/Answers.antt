@@ -1,7 +1,6 @@
 -- `history_short` meets its contract.
 use Rattle.archive.specs.HistoryCall.{history-from}
 use Rattle.archive.specs.Giving.{gives-told}
-use borrow.Author.Rules.{rules}
 use Rattle.firmware.proofs.cells.history_short.Goals as goal
 
 pub returns : goal.returns

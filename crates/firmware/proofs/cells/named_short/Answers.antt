@@ -2,7 +2,6 @@
 use native.Mathlib.Omega.{arith}
 use Rattle.archive.specs.FewCells.{named-few}
 use Rattle.archive.specs.MarkCalls.{marked-as}
-use borrow.Author.Rules.{rules}
 use Rattle.firmware.proofs.cells.named_short.Goals as goal
 
 pub back_to_mark_in-b-requires : goal.back_to_mark_in-b-requires

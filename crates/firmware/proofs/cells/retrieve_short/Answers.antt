@@ -1,7 +1,6 @@
 -- `retrieve_short` meets its contract.
 use Rattle.archive.specs.RetrieveLaws.{retrieve-steps}
 use Rattle.archive.specs.Giving.{gives-told}
-use borrow.Author.Rules.{rules}
 use Rattle.firmware.proofs.cells.retrieve_short.Goals as goal
 
 pub returns : goal.returns

@@ -1,7 +1,6 @@
 -- `set_short` meets its contract.
 use Rattle.archive.specs.FewCells.{set-few}
 use Rattle.archive.specs.Opening.{opened-few}
-use borrow.Author.Rules.{rules}
 use Rattle.firmware.proofs.cells.set_short.Goals as goal
 
 pub set-c-requires : goal.set-c-requires

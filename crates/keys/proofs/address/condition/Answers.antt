@@ -9,7 +9,6 @@ use Rattle.keys.specs.TableLaws.{part-within}
 use Rattle.keys.specs.AddressParts.{opener}
 use Rattle.keys.specs.AddressSkips.{condition-by}
 use Rattle.keys.specs.AddressKeys.{keyed-cell, keyed-within, keyed-name, skipped-key}
-use borrow.Author.Rules.{rules}
 use Rattle.keys.proofs.address.condition.Goals as goal
 
 pub overflow_add-q : goal.overflow_add-q

@@ -3,7 +3,6 @@ use mathlib.Core.Path.{sym, subst}
 use Rattle.xml.specs.Bytes.{Bytes, bytes}
 use Rattle.keys.specs.AddressParts.{Skipped}
 use Rattle.keys.specs.AddressSkips.{open-first, open-later}
-use borrow.Author.Rules.{rules}
 use Rattle.keys.proofs.address.open_at.Goals as goal
 
 pub returns-then-j-eq0 : goal.returns-then-j-eq0

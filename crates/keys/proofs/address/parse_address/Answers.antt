@@ -1,14 +1,10 @@
 -- `parse_address` meets its contract: the machine's answer from the place is the whole one, and the steps so far are in the arrays.
-use Prim.Native.Nat.{◌-◌, ◌≤◌}
 use native.Mathlib.Omega.{arith}
-use mathlib.Core.Path.{◌≡◌, refl}
+use mathlib.Core.Path.{refl}
 use mathlib.Core.List.{map}
 use borrow.Author.Rules.{rules}
-use lib.ListN.{length}
-use Rattle.keys.specs.KeyList.{KeyList}
 use Rattle.keys.specs.Version.{name_in}
-use Rattle.keys.specs.Table.{Table}
-use Rattle.keys.specs.AddressLoop.{Parsing, parsing-starts, parsing-more, parsing-full, parsing-wrong, parsing-done}
+use Rattle.keys.specs.AddressLoop.{parsing-starts, parsing-more, parsing-full, parsing-wrong, parsing-done}
 use Rattle.keys.proofs.address.parse_address.Goals as goal
 
 pub loop-at-init : goal.loop-at-init

@@ -1,13 +1,10 @@
 -- `read_conditions` meets its contract: the machine's answer from condition j on is the whole one.
 use Prim.Native.Nat.{◌-◌, ◌≤◌}
-use native.Mathlib.Omega.{arith}
-use mathlib.Core.Path.{◌≡◌, refl, sym, ◌∙◌}
-use borrow.Author.Rules.{rules}
+use mathlib.Core.Path.{◌≡◌}
 use lib.ListN.{length}
 use Rattle.keys.specs.KeyList.{key_names_at}
 use Rattle.keys.specs.Placed.{OfPlace}
-use Rattle.keys.specs.AddressKeys.{few-keyed, keyed-at}
-use Rattle.keys.specs.AddressTurns.{Going, conditions-bare, going-starts, going-wrong, going_more, going-open, going_done}
+use Rattle.keys.specs.AddressTurns.{Going}
 use Rattle.keys.proofs.address.read_conditions.Given as goal
 
 abbrev pub invariant-loop-j : goal.invariant-loop-j

@@ -6,7 +6,6 @@ use lib.Seq.{slice}
 use Rattle.keys.specs.Version.{◌▸◌}
 use Rattle.keys.specs.TableLaws.{table-rules}
 use Rattle.keys.specs.AddressStep.{name-run, step_other, step-unlisted, step-read}
-use borrow.Author.Rules.{rules}
 use Rattle.keys.proofs.address.read_step.Goals as goal
 
 pub returns-then-s-at-ne47 : goal.returns-then-s-at-ne47

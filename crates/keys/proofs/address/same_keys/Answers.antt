@@ -1,9 +1,8 @@
 -- `same_keys` meets its contract: the values from key j on are the same where all are.
-use Prim.Native.Nat.{◌+◌, ◌-◌, ◌≤◌, ◌<◌}
+use Prim.Native.Nat.{◌+◌, ◌≤◌, ◌<◌}
 use native.Mathlib.Omega.{arith}
 use mathlib.Core.Path.{◌≡◌, refl, sym, ◌∙◌}
 use borrow.Author.Rules.{rules}
-use borrow.Author.Tests.{not-true, not-false}
 use lib.ListN.{length}
 use Rattle.xml.specs.Forest.{Forest}
 use Rattle.xml.specs.Tape.{Node, Tape}
@@ -12,7 +11,7 @@ use Rattle.keys.specs.Version.{called, value_in}
 use Rattle.keys.specs.Placed.{OfPlace}
 use Rattle.keys.specs.Named.{few-keys}
 use Rattle.keys.specs.LabelLaws.{key-room, key-within, key-name-is, key_bytes, value-node}
-use Rattle.keys.specs.SameStep.{From, keys-differ, keys_on, keys-done}
+use Rattle.keys.specs.SameStep.{keys-differ, keys_on, keys-done}
 use Rattle.keys.proofs.address.same_keys.Goals as goal
 
 pub key_count-count-requires : goal.key_count-count-requires

@@ -1,18 +1,11 @@
 -- `same_keys` meets its contract: the values from key j on are the same where all are.
-use Prim.Native.Nat.{◌+◌, ◌-◌, ◌≤◌, ◌<◌}
-use native.Mathlib.Omega.{arith}
-use mathlib.Core.Path.{◌≡◌, refl, sym, ◌∙◌}
-use borrow.Author.Rules.{rules}
-use borrow.Author.Tests.{not-true, not-false}
-use lib.ListN.{length}
+use Prim.Native.Nat.{◌-◌, ◌≤◌}
+use mathlib.Core.Path.{◌≡◌}
 use Rattle.xml.specs.Forest.{Forest}
-use Rattle.xml.specs.Tape.{Node, Tape}
+use Rattle.xml.specs.Tape.{Tape}
 use Rattle.keys.specs.KeyList.{key_names_at}
-use Rattle.keys.specs.Version.{called, value_in}
 use Rattle.keys.specs.Placed.{OfPlace}
-use Rattle.keys.specs.Named.{few-keys}
-use Rattle.keys.specs.LabelLaws.{key-room, key-within, key-name-is, key_bytes, value-node}
-use Rattle.keys.specs.SameStep.{From, keys-differ, keys_on, keys-done}
+use Rattle.keys.specs.SameStep.{From}
 use Rattle.keys.proofs.address.same_keys.Given as goal
 
 abbrev pub invariant-loop-j : goal.invariant-loop-j

@@ -2,14 +2,12 @@
 use native.Mathlib.Omega.{arith}
 use mathlib.Core.Path.{sym, ◌∙◌, ap, subst}
 use mathlib.Core.List.{[]}
-use borrow.Author.Tests.{not-true, not-false}
 use lib.ListN.{length, get_or}
 use Rattle.keys.specs.KeyList.{Path, key_names_at}
 use Rattle.keys.specs.Version.{◌▸◌}
 use Rattle.keys.specs.Table.{place_of}
 use Rattle.keys.specs.AddressParts.{Inside}
 use Rattle.keys.specs.SameStep.{named_other, named-same, named-on}
-use borrow.Author.Rules.{rules}
 use Rattle.keys.proofs.address.same_step.Goals as goal
 
 pub same_bytes-requires : goal.same_bytes-requires

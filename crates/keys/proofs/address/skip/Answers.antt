@@ -2,10 +2,8 @@
 use Prim.Native.Nat.{◌-◌}
 use native.Mathlib.Omega.{arith}
 use mathlib.Core.Path.{sym, ◌∙◌}
-use borrow.Author.Tests.{not-true, not-false}
 use lib.Seq.{slice, length-slice}
 use Rattle.keys.specs.AddressSkips.{skip-out, skip-short, skip-other, skip-word}
-use borrow.Author.Rules.{rules}
 use Rattle.keys.proofs.address.skip.Goals as goal
 
 pub returns-then-s-at : goal.returns-then-s-at

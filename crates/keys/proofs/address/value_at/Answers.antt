@@ -1,7 +1,6 @@
 -- `value_at` meets its contract: one law a return.
 use mathlib.Core.Path.{sym, ◌∙◌}
 use Rattle.keys.specs.AddressSkips.{quoted-out, quoted-empty, quoted-long, quoted-open, quoted-read}
-use borrow.Author.Rules.{rules}
 use Rattle.keys.proofs.address.value_at.Goals as goal
 
 pub returns-then-s-at : goal.returns-then-s-at

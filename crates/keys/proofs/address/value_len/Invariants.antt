@@ -1,14 +1,8 @@
 -- `value_len` meets its contract: the bytes passed and the run from the place on are the whole run.
-use mathlib.Core.Path.{◌≡◌, ap, sym, ◌∙◌}
-use Prim.Native.Nat.{ℕ, ◌+◌, ◌-◌, ◌<◌, ◌≤◌}
-use native.Mathlib.Nat.{add-zero, zero-add}
-use native.Mathlib.Omega.{arith}
-use borrow.Author.Rules.{rules}
-use borrow.Author.Tests.{ltb-true, ltb-false}
-use lib.ListN.{length, drop, get_or}
-use Rattle.xml.specs.SameTapes.{not-true, not-false}
+use mathlib.Core.Path.{◌≡◌}
+use Prim.Native.Nat.{◌+◌, ◌-◌, ◌≤◌}
+use lib.ListN.{length, drop}
 use Rattle.xml.specs.Read.{name_rest}
-use Rattle.xml.specs.ScanLaws.{name_rest-none, name_rest-end, name_rest-stop, name_rest-more}
 use Rattle.keys.proofs.address.value_len.Given as goal
 
 abbrev pub invariant-loop-n : goal.invariant-loop-n

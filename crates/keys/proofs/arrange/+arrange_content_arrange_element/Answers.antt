@@ -3,18 +3,17 @@ use native.Mathlib.Omega.{arith}
 use mathlib.Core.Path.{◌≡◌, refl, sym, ◌∙◌}
 use mathlib.Core.Bool.{true, false}
 use lib.ListN.{length, length-set}
-use borrow.Author.Tests.{not-true, not-false}
 use Rattle.xml.specs.Bytes.{Bytes}
-use Rattle.xml.specs.Tape.{next_at, Node}
+use Rattle.xml.specs.Tape.{Node}
 use Rattle.xml.specs.TapeLaws.{tape-le}
 use Rattle.keys.specs.KeyList.{above}
 use Rattle.keys.specs.Version.{◌▸◌}
 use Rattle.keys.specs.Table.{place_of}
 use Rattle.keys.specs.Placed.{OfPlace}
 use Rattle.keys.specs.Entries.{Sorted}
-use Rattle.keys.specs.Building.{Progress, turn, turn-fit, progress-twice, progress-more, progress-done, fit-checked, fit-few-tags, fit-twice, progress_start}
+use Rattle.keys.specs.Building.{turn, turn-fit, progress-twice, progress-more, progress-done, fit-checked, fit-few-tags, fit-twice, progress_start}
 use Rattle.keys.specs.BuildingLaws.{fit-kids, element-twice, element-arranged, element-end, element-size, fit-linked, fit-few, content-copied}
-use Prim.Native.Nat.{ℕ, ◌+◌, ◌*◌, ◌-◌, ◌<◌, ◌≤◌}
+use Prim.Native.Nat.{◌+◌, ◌<◌, ◌≤◌}
 use Rattle.keys.proofs.arrange.+arrange_content_arrange_element.Goals as goal
 
 pub arrange_content-is_above-requires : goal.arrange_content-is_above-requires

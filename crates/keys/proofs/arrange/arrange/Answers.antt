@@ -1,6 +1,5 @@
 -- `arrange` meets its contract.
 use Rattle.keys.specs.Arrange.{version-fits, version-ordered, version-twice}
-use borrow.Author.Rules.{rules}
 use Rattle.keys.proofs.arrange.arrange.Goals as goal
 
 pub arrange_content-end-requires : goal.arrange_content-end-requires

@@ -4,7 +4,7 @@ use native.Mathlib.Omega.{arith}
 use mathlib.Core.Path.{◌≡◌}
 use lib.ListN.{length, length-set}
 use Rattle.xml.specs.Tape.{next_at}
-use Rattle.keys.specs.Copied.{Copied, copied_none, copied_more}
+use Rattle.keys.specs.Copied.{copied_none, copied_more}
 use Rattle.keys.proofs.arrange.copy.Goals as goal
 
 pub loop-i-init : goal.loop-i-init
@@ -86,13 +86,12 @@ loop-i-smaller c = omega arith
 pub loop-i-preserved : goal.loop-i-preserved
 loop-i-preserved c =
     let room : 2 * c.loop-i.to + 1 < length c.loop-i.out = omega (arith, c.loop-i.invariant.2.count, c.loop-i.invariant.2.size, c.requires.1, c.requires.2, c.loop-i-test.true) in
-    let turn : (c.loop-i.i < next_at c.args.tape.now c.loop-i.i) × (next_at c.args.tape.now c.loop-i.i ≤ c.args.hi) = c.requires.0.next c.loop-i.i c.loop-i.invariant.0 c.loop-i-test.true in
-    (
-  omega (arith, c.loop-i.invariant.0),
-  omega (arith, c.loop-i-test.true),
-  copied_more c.args.tape.now c.args.lo c.loop-i.i c.args.out.now c.args.m c.loop-i.to c.loop-i.out c.loop-i.invariant.2 c.loop-i.invariant.0 room
-      (next_at c.args.tape.now c.loop-i.i - c.args.lo + c.args.m) (omega (arith, turn.0, c.loop-i.invariant.0)),
-)
+    let turn : (c.loop-i.i < next_at c.args.tape.now c.loop-i.i) × (next_at c.args.tape.now c.loop-i.i ≤ c.args.hi) = c.requires.0.next c.loop-i.i c.loop-i.invariant.0 c.loop-i-test.true in (
+      omega (arith, c.loop-i.invariant.0),
+      omega (arith, c.loop-i-test.true),
+      copied_more c.args.tape.now c.args.lo c.loop-i.i c.args.out.now c.args.m c.loop-i.to c.loop-i.out c.loop-i.invariant.2 c.loop-i.invariant.0 room
+          (next_at c.args.tape.now c.loop-i.i - c.args.lo + c.args.m) (omega (arith, turn.0, c.loop-i.invariant.0)),
+    )
 
 pub shape_of-out : goal.shape_of-out
 shape_of-out c = c.loop-i.invariant.2.size

@@ -1,10 +1,6 @@
 -- `copy` meets its contract: the nodes passed stand in the second tape.
-use Prim.Native.Nat.{◌+◌, ◌*◌, ◌-◌, ◌≤◌, ◌<◌}
-use native.Mathlib.Omega.{arith}
-use mathlib.Core.Path.{◌≡◌}
-use lib.ListN.{length, length-set}
-use Rattle.xml.specs.Tape.{next_at}
-use Rattle.keys.specs.Copied.{Copied, copied_none, copied_more}
+use Prim.Native.Nat.{◌-◌, ◌≤◌}
+use Rattle.keys.specs.Copied.{Copied}
 use Rattle.keys.proofs.arrange.copy.Given as goal
 
 abbrev pub invariant-loop-i : goal.invariant-loop-i

@@ -1,13 +1,12 @@
 -- The place and the number of the names behind i, going down from what is known.
 use mathlib.Core.Path.{sym}
 use lib.Seq.{length-take-le}
-use Prim.Native.Nat.{◌+◌, ◌-◌, ◌≤◌}
+use Prim.Native.Nat.{◌+◌}
 use native.Mathlib.Omega.{arith}
-use Rattle.keys.specs.Rows.{Rowed}
 use Rattle.keys.proofs.RowLaws.{row_from, row_within, rowed-fits}
 use Rattle.keys.proofs.LineParts.{context-row, name-bounds}
 use Rattle.keys.proofs.ContextLaws.{known-rowed, known-counted, known-walked}
-use Rattle.keys.proofs.LoadSteps.{Counted, count_turn, count-ends, Walked, walk-placed, walk_turn, walk_ends, rowed-go}
+use Rattle.keys.proofs.LoadSteps.{count_turn, count-ends, walk-placed, walk_turn, walk_ends, rowed-go}
 use Rattle.keys.proofs.contexts.context_place.Goals as goal
 
 pub loop-i-init : goal.loop-i-init
@@ -51,11 +50,11 @@ loop-i-smaller c = omega (arith, rowed-fits c.loop-i.invariant.0 c.loop-i-test.t
 
 pub loop-i-preserved : goal.loop-i-preserved
 loop-i-preserved c = let f = rowed-fits c.loop-i.invariant.0 c.loop-i-test.true c.name_len-m.ensures in (
-      rowed-go c.loop-i.invariant.0 c.loop-i-test.true c.name_len-m.ensures,
-      omega arith,
-      count_turn c.loop-i.depth c.loop-i.invariant.2 c.loop-i-test.true c.name_len-m.ensures,
-      walk_turn c.args.text.now c.args.at c.args.table.now c.args.n (c.args.at + 1) c.args.end c.loop-i.i c.loop-i.place c.loop-i.invariant.3 c.name_len-m.result c.child-place.result c.loop-i-test.true c.name_len-m.ensures c.child-place.ensures,
-    )
+  rowed-go c.loop-i.invariant.0 c.loop-i-test.true c.name_len-m.ensures,
+  omega arith,
+  count_turn c.loop-i.depth c.loop-i.invariant.2 c.loop-i-test.true c.name_len-m.ensures,
+  walk_turn c.args.text.now c.args.at c.args.table.now c.args.n (c.args.at + 1) c.args.end c.loop-i.i c.loop-i.place c.loop-i.invariant.3 c.name_len-m.result c.child-place.result c.loop-i-test.true c.name_len-m.ensures c.child-place.ensures,
+)
 
 pub returns : goal.returns
 returns c = (

@@ -2,9 +2,7 @@
 use Prim.Native.Nat.{◌+◌}
 use native.Mathlib.Omega.{arith}
 use mathlib.Core.Path.{sym, ◌∙◌}
-use borrow.Author.Tests.{not-false}
 use Rattle.keys.proofs.ContextLaws.{whole-within, known-none, known_shared, known-below}
-use borrow.Author.Rules.{rules}
 use Rattle.keys.proofs.contexts.known_context.Goals as goal
 
 pub returns-then-not-stand_whole : goal.returns-then-not-stand_whole

@@ -1,9 +1,7 @@
 -- The bytes, then the one after them.
 use native.Mathlib.Omega.{arith}
 use mathlib.Core.Path.{sym, ◌∙◌}
-use borrow.Author.Tests.{not-true, not-false}
 use Rattle.keys.proofs.ContextLaws.{whole-short, whole-other, whole-ended, whole-on}
-use borrow.Author.Rules.{rules}
 use Rattle.keys.proofs.contexts.stand_whole.Goals as goal
 
 pub returns-then-text-at : goal.returns-then-text-at

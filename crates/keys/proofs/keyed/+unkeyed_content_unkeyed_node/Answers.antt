@@ -5,10 +5,9 @@ use mathlib.Core.Path.{sym, ◌∙◌}
 use Rattle.xml.specs.Tape.{next_at}
 use Rattle.xml.specs.TapeLaws.{bytes_at, inner-node}
 use Rattle.keys.specs.Version.{◌▸◌}
-use Rattle.keys.specs.Walks.{Walk, OfNodes, walk-front, walk-node, walk-next, walk-kids, Going, going_start, going_more, going-found, going_done}
+use Rattle.keys.specs.Walks.{Walk, walk-front, walk-node, walk-next, walk-kids, going_start, going_more, going-found, going_done}
 use Rattle.keys.specs.Strays.{keyless, keyless-end, keyless-other, keyless-under, keyless-lacking, keyless-inside, keyless-here, keyless-past}
-use Prim.Native.Nat.{ℕ, ◌+◌, ◌*◌, ◌-◌, ◌<◌, ◌≤◌}
-use borrow.Author.Tests.{not-true}
+use Prim.Native.Nat.{◌+◌}
 use Rattle.keys.proofs.keyed.+unkeyed_content_unkeyed_node.Goals as goal
 
 pub unkeyed_content-loop-p-init : goal.unkeyed_content-loop-p-init

@@ -1,14 +1,9 @@
 -- `keys::keyed::unkeyed_content` and `unkeyed_node` meet their contracts: the loop's answer is that of the nodes to come, and a node's is
 -- that of its element's key children and of what it holds. The nodes left fall. Assumes nothing.
-use native.Mathlib.Omega.{arith}
-use mathlib.Core.Path.{sym, ◌∙◌}
 use Rattle.xml.specs.Tape.{next_at}
-use Rattle.xml.specs.TapeLaws.{bytes_at, inner-node}
-use Rattle.keys.specs.Version.{◌▸◌}
-use Rattle.keys.specs.Walks.{Walk, OfNodes, walk-front, walk-node, walk-next, walk-kids, Going, going_start, going_more, going-found, going_done}
-use Rattle.keys.specs.Strays.{keyless, keyless-end, keyless-other, keyless-under, keyless-lacking, keyless-inside, keyless-here, keyless-past}
-use Prim.Native.Nat.{ℕ, ◌+◌, ◌*◌, ◌-◌, ◌<◌, ◌≤◌}
-use borrow.Author.Tests.{not-true}
+use Rattle.keys.specs.Walks.{Walk, OfNodes, Going}
+use Rattle.keys.specs.Strays.{keyless}
+use Prim.Native.Nat.{◌+◌, ◌*◌, ◌-◌, ◌≤◌}
 use Rattle.keys.proofs.keyed.+unkeyed_content_unkeyed_node.Given as goal
 
 abbrev pub decreases-unkeyed_content : goal.decreases-unkeyed_content

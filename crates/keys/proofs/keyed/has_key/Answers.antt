@@ -3,7 +3,6 @@ use native.Mathlib.Omega.{arith}
 use mathlib.Core.Path.{sym, ◌∙◌}
 use Rattle.keys.specs.FindKey.{called-none, called-some}
 use Rattle.keys.specs.KeyChild.{one_none, one-twice, one-once}
-use borrow.Author.Rules.{rules}
 use Rattle.keys.proofs.keyed.has_key.Goals as goal
 
 pub returns-then-p-hi : goal.returns-then-p-hi

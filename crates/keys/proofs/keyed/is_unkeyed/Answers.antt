@@ -2,7 +2,6 @@
 use mathlib.Core.List.{[]}
 use Rattle.keys.specs.PlaceLaws.{place-root}
 use Rattle.keys.specs.Strays.{keyless}
-use borrow.Author.Rules.{rules}
 use Rattle.keys.proofs.keyed.is_unkeyed.Goals as goal
 
 pub returns : goal.returns

@@ -1,11 +1,6 @@
 -- `keys::keyed::is_value` meets its contract: a run of 1 to 32 bytes is a value if each byte is a name's. Assumes nothing.
-use Prim.Native.Nat.{◌≤◌, ◌-◌}
 use native.Mathlib.Omega.{arith}
-use mathlib.Core.Path.{◌≡◌, refl, sym, ◌∙◌}
-use lib.Seq.{slice}
-use borrow.Author.Rules.{rules}
-use Rattle.xml.specs.Bytes.{all, is_name_byte}
-use Rattle.xml.specs.SameTapes.{not-true, not-false}
+use mathlib.Core.Path.{refl, sym, ◌∙◌}
 use Rattle.keys.specs.Values.{value-short, value-long, value-names, names-stop, names_more, names-done}
 use Rattle.keys.proofs.keyed.is_value.Goals as goal
 

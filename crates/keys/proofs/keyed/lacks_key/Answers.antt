@@ -1,14 +1,10 @@
 -- `keys::keyed::lacks_key` meets its contract. The loop's invariant: what is lacking is lacking from the key name j on. Assumes nothing.
-use Prim.Native.Nat.{◌+◌, ◌-◌, ◌<◌, ◌≤◌}
+use Prim.Native.Nat.{◌+◌, ◌<◌}
 use native.Mathlib.Omega.{arith}
-use mathlib.Core.Path.{◌≡◌, sym, ◌∙◌}
+use mathlib.Core.Path.{sym, ◌∙◌}
 use lib.ListN.{length}
-use borrow.Author.Rules.{rules}
-use borrow.Author.Tests.{not-true, not-false}
 use Rattle.keys.specs.KeyList.{key_names_at}
-use Rattle.keys.specs.Walks.{OfNodes}
-use Rattle.keys.specs.Strays.{lacking}
-use Rattle.keys.specs.KeyNames.{lacking_from, lacking-start, lacking-here, lacking-more, lacking-done}
+use Rattle.keys.specs.KeyNames.{lacking-start, lacking-here, lacking-more, lacking-done}
 use Rattle.keys.specs.LabelLaws.{key-room, key-within}
 use Rattle.keys.proofs.keyed.lacks_key.Goals as goal
 

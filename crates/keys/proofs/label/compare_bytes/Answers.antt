@@ -1,9 +1,7 @@
 -- `compare_bytes` meets its contract: what is left of both parts compares as the whole does.
-use Prim.Native.Nat.{◌-◌, ◌≤◌}
 use native.Mathlib.Omega.{arith}
-use mathlib.Core.Path.{◌≡◌, refl, sym, ◌∙◌, ap}
-use lib.Seq.{slice}
-use Rattle.keys.specs.Ranks.{rank, compare_bytes, compare-none, compare-short, compare-long, compare-less, compare-more, compare-on}
+use mathlib.Core.Path.{refl, sym, ◌∙◌, ap}
+use Rattle.keys.specs.Ranks.{rank, compare-none, compare-short, compare-long, compare-less, compare-more, compare-on}
 use Rattle.keys.proofs.label.compare_bytes.Goals as goal
 
 -- src/label.rt:15:5

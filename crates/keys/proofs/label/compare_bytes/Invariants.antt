@@ -1,9 +1,8 @@
 -- `compare_bytes` meets its contract: what is left of both parts compares as the whole does.
 use Prim.Native.Nat.{◌-◌, ◌≤◌}
-use native.Mathlib.Omega.{arith}
-use mathlib.Core.Path.{◌≡◌, refl, sym, ◌∙◌, ap}
+use mathlib.Core.Path.{◌≡◌}
 use lib.Seq.{slice}
-use Rattle.keys.specs.Ranks.{rank, compare_bytes, compare-none, compare-short, compare-long, compare-less, compare-more, compare-on}
+use Rattle.keys.specs.Ranks.{compare_bytes}
 use Rattle.keys.proofs.label.compare_bytes.Given as goal
 
 abbrev pub invariant-loop-i : goal.invariant-loop-i

@@ -1,17 +1,14 @@
 -- `compare_keys` meets its contract: the values from key i on compare as all of them do.
-use Prim.Native.Nat.{◌+◌, ◌-◌, ◌≤◌, ◌<◌}
+use Prim.Native.Nat.{◌+◌, ◌<◌}
 use native.Mathlib.Omega.{arith}
 use mathlib.Core.Path.{◌≡◌, refl, sym, ◌∙◌, ap}
-use lib.ListN.{length, drop}
+use lib.ListN.{length}
 use Rattle.xml.specs.Forest.{Forest}
 use Rattle.xml.specs.Tape.{Node, Tape}
 use Rattle.xml.specs.TapeLaws.{bytes_at}
-use Rattle.model.specs.Orders.{labels}
 use Rattle.keys.specs.KeyList.{key_names_at}
 use Rattle.keys.specs.Version.{called, value_in}
-use Rattle.keys.specs.Placed.{OfPlace}
 use Rattle.keys.specs.Ranks.{rank, compare_bytes}
-use Rattle.keys.specs.Labelled.{values_of}
 use Rattle.keys.specs.LabelLaws.{key-room, key-within, key-name-is, key_bytes, value-node, values-differ, values-on, values-done}
 use Rattle.keys.proofs.label.compare_keys.Goals as goal
 
@@ -106,16 +103,15 @@ loop-i-preserved c =
     let first : c.loop-i.i < length (key_names_at c.requires.0.key_list c.requires.0.path) = omega (arith, c.key_count-count.ensures c.args.text.now c.requires.0.key_list c.requires.0.path c.requires.0.tabled c.requires.0.place_is, c.loop-i-test.true) in
     let value-1 : (f : Forest) → Tape c.args.src1.now c.args.tape1.now c.args.lo1 c.args.hi1 f → Node c.args.src1.now c.args.tape1.now (c.find_key-x.result + 1) 0 (value_in (called (key_bytes c.args.text.now c.args.table.now (c.args.own + 1 + c.loop-i.i)) f)) = value-node c.loop-i.i c.requires.0 (first) c.find_key-x.result (rw c.key_name-key.ensures at c.find_key-x.ensures) in
     let second : c.loop-i.i < length (key_names_at c.requires.1.key_list c.requires.1.path) = omega (arith, c.key_count-count.ensures c.args.text.now c.requires.1.key_list c.requires.1.path c.requires.1.tabled c.requires.1.place_is, c.loop-i-test.true) in
-    let value-2 : (f : Forest) → Tape c.args.src2.now c.args.tape2.now c.args.lo2 c.args.hi2 f → Node c.args.src2.now c.args.tape2.now (c.find_key-y.result + 1) 0 (value_in (called (key_bytes c.args.text.now c.args.table.now (c.args.own + 1 + c.loop-i.i)) f)) = value-node c.loop-i.i c.requires.1 (second) c.find_key-y.result (rw c.key_name-key.ensures at c.find_key-y.ensures) in
-    (
-  omega arith,
-  λ K p t e f1 f2 h1 h2.
-      let l : c.loop-i.i < length (key_names_at K p) = omega (arith, c.key_count-count.ensures c.args.text.now K p t e, c.loop-i-test.true) in
-      let o = compared in
-      c.loop-i.invariant.1 K p t e f1 f2 h1 h2
-      ∙ values-on (key_names_at K p) f1 f2 c.loop-i.i l (key-name-is t p c.args.own e c.loop-i.i l) (value-1 f1 h1).bytes-are (value-2 f2 h2).bytes-are
-      (sym o ∙ c.if-order-ne1.false),
-)
+    let value-2 : (f : Forest) → Tape c.args.src2.now c.args.tape2.now c.args.lo2 c.args.hi2 f → Node c.args.src2.now c.args.tape2.now (c.find_key-y.result + 1) 0 (value_in (called (key_bytes c.args.text.now c.args.table.now (c.args.own + 1 + c.loop-i.i)) f)) = value-node c.loop-i.i c.requires.1 (second) c.find_key-y.result (rw c.key_name-key.ensures at c.find_key-y.ensures) in (
+      omega arith,
+      λ K p t e f1 f2 h1 h2.
+          let l : c.loop-i.i < length (key_names_at K p) = omega (arith, c.key_count-count.ensures c.args.text.now K p t e, c.loop-i-test.true) in
+          let o = compared in
+          c.loop-i.invariant.1 K p t e f1 f2 h1 h2
+          ∙ values-on (key_names_at K p) f1 f2 c.loop-i.i l (key-name-is t p c.args.own e c.loop-i.i l) (value-1 f1 h1).bytes-are (value-2 f2 h2).bytes-are
+          (sym o ∙ c.if-order-ne1.false),
+    )
 
 pub returns : goal.returns
 returns c K p t e f1 f2 h1 h2 = sym (ap rank (c.loop-i.invariant.1 K p t e f1 f2 h1 h2

@@ -1,18 +1,13 @@
 -- `compare_keys` meets its contract: the values from key i on compare as all of them do.
-use Prim.Native.Nat.{◌+◌, ◌-◌, ◌≤◌, ◌<◌}
-use native.Mathlib.Omega.{arith}
-use mathlib.Core.Path.{◌≡◌, refl, sym, ◌∙◌, ap}
-use lib.ListN.{length, drop}
+use Prim.Native.Nat.{◌-◌, ◌≤◌}
+use mathlib.Core.Path.{◌≡◌}
+use lib.ListN.{drop}
 use Rattle.xml.specs.Forest.{Forest}
-use Rattle.xml.specs.Tape.{Node, Tape}
-use Rattle.xml.specs.TapeLaws.{bytes_at}
+use Rattle.xml.specs.Tape.{Tape}
 use Rattle.model.specs.Orders.{labels}
 use Rattle.keys.specs.KeyList.{key_names_at}
-use Rattle.keys.specs.Version.{called, value_in}
 use Rattle.keys.specs.Placed.{OfPlace}
-use Rattle.keys.specs.Ranks.{rank, compare_bytes}
 use Rattle.keys.specs.Labelled.{values_of}
-use Rattle.keys.specs.LabelLaws.{key-room, key-within, key-name-is, key_bytes, value-node, values-differ, values-on, values-done}
 use Rattle.keys.proofs.label.compare_keys.Given as goal
 
 abbrev pub invariant-loop-i : goal.invariant-loop-i

@@ -6,7 +6,6 @@ use Rattle.xml.specs.Tape.{Node}
 use Rattle.keys.specs.Version.{◌▸◌}
 use Rattle.keys.specs.Ranks.{rank, compare_bytes}
 use Rattle.keys.specs.LabelLaws.{names-differ, names_same, names-on}
-use borrow.Author.Rules.{rules}
 use Rattle.keys.proofs.label.compare_labels_at.Goals as goal
 
 pub compare_bytes-names-requires : goal.compare_bytes-names-requires

@@ -1,14 +1,10 @@
 -- `find_key` meets its contract: the nodes left hold all elements of the name.
 use Prim.Native.Nat.{◌-◌}
-use native.Mathlib.Omega.{arith}
-use mathlib.Core.Path.{sym, ◌∙◌}
 use lib.Seq.{slice}
 use Rattle.xml.specs.Forest.{Forest}
 use Rattle.xml.specs.Tape.{Tape}
-use Rattle.xml.specs.TapeLaws.{Front, front}
 use Rattle.keys.specs.Version.{called}
-use Rattle.keys.specs.FindKey.{key-over, key-past, key_here, key-none}
-use Rattle.keys.specs.Walks.{Going, going_start}
+use Rattle.keys.specs.Walks.{Going}
 use Rattle.keys.proofs.label.find_key.Given as goal
 
 abbrev pub invariant-loop-p : goal.invariant-loop-p

@@ -2,12 +2,10 @@
 use native.Mathlib.Omega.{arith}
 use mathlib.Core.Path.{sym, ◌∙◌, subst}
 use mathlib.Core.Bool.{Bool}
-use borrow.Author.Tests.{not-true, not-false}
 use lib.Seq.{length-take-le}
 use Rattle.keys.specs.Loading.{Decides, Small}
 use Rattle.keys.proofs.LineParts.{keys-row, name-bounds}
 use Rattle.keys.proofs.AddLine.{too_many, no_line, not_new, has-T, not-small, context-placed, few-counted, line-room, line-added}
-use borrow.Author.Rules.{rules}
 use Rattle.keys.proofs.load.add_line.Goals as goal
 
 pub returns-then-lines-eq64 : goal.returns-then-lines-eq64

@@ -1,13 +1,9 @@
 -- The cells are the table of the lines so far, which keep the rules.
-use Prim.Native.Nat.{◌-◌}
 use native.Mathlib.Omega.{arith}
 use mathlib.Core.Path.{sym, ◌∙◌}
-use borrow.Author.Rules.{rules}
-use lib.ListN.{length}
 use Rattle.keys.specs.LineRead.{read-line, read_none}
 use Rattle.keys.proofs.NotationPass.{pass-goes, pass-fails}
 use Rattle.keys.proofs.ContextLaws.{known-begun}
-use Rattle.keys.specs.Loading.{Building}
 use Rattle.keys.proofs.LoadWhole.{built-all, few-lines, add-stop, add-next, refused-load}
 use Rattle.keys.proofs.load.add_lines.Goals as goal
 
@@ -46,10 +42,10 @@ overflow_add-names c = let l = read-line c.in-Parts.is c.line_at.ensures in omeg
 
 pub refusal-requires : goal.refusal-requires
 refusal-requires c = let l = read-line c.in-Parts.is c.line_at.ensures in (
-      omega arith,
-      pass-goes c.args.text.now c.loop-at.at c.loop-at.invariant.upto _ _ _ l,
-      add-stop c.args.text.now c.add_line.new.table c.loop-at.lines c.in-Parts.names _ c.in-Nowhere.is c.add_line.ensures,
-    )
+  omega arith,
+  pass-goes c.args.text.now c.loop-at.at c.loop-at.invariant.upto _ _ _ l,
+  add-stop c.args.text.now c.add_line.new.table c.loop-at.lines c.in-Parts.names _ c.in-Nowhere.is c.add_line.ensures,
+)
 
 pub shape_of-table-in-Nowhere : goal.shape_of-table-in-Nowhere
 shape_of-table-in-Nowhere c = c.add_line.auto.table ∙ c.loop-at.invariant.room ∙ sym c.requires.room

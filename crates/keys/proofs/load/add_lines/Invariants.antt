@@ -1,14 +1,7 @@
 -- The cells are the table of the lines so far, which keep the rules.
 use Prim.Native.Nat.{◌-◌}
-use native.Mathlib.Omega.{arith}
-use mathlib.Core.Path.{sym, ◌∙◌}
-use borrow.Author.Rules.{rules}
 use lib.ListN.{length}
-use Rattle.keys.specs.LineRead.{read-line, read_none}
-use Rattle.keys.proofs.NotationPass.{pass-goes, pass-fails}
-use Rattle.keys.proofs.ContextLaws.{known-begun}
 use Rattle.keys.specs.Loading.{Building}
-use Rattle.keys.proofs.LoadWhole.{built-all, few-lines, add-stop, add-next, refused-load}
 use Rattle.keys.proofs.load.add_lines.Given as goal
 
 abbrev pub invariant-loop-at : goal.invariant-loop-at

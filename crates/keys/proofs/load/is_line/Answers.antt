@@ -3,7 +3,6 @@ use Prim.Native.Nat.{◌+◌, ◌*◌}
 use native.Mathlib.Omega.{arith}
 use mathlib.Core.Path.{sym}
 use Rattle.keys.proofs.LoadSteps.{line-out, line-root, line-later}
-use borrow.Author.Rules.{rules}
 use Rattle.keys.proofs.load.is_line.Goals as goal
 
 pub returns-then-place-n : goal.returns-then-place-n

@@ -1,7 +1,6 @@
 -- The three bounds.
 use native.Mathlib.Omega.{arith}
 use Rattle.keys.proofs.LoadSteps.{small-bare, small-keyed}
-use borrow.Author.Rules.{rules}
 use Rattle.keys.proofs.load.is_small.Goals as goal
 
 pub returns-then-keys-eq0 : goal.returns-then-keys-eq0

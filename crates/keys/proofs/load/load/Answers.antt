@@ -5,7 +5,6 @@ use Rattle.keys.specs.LineRead.{read-line, read_none}
 use Rattle.keys.proofs.LineScanLaws.{begun-none}
 use Rattle.keys.proofs.LineParts.{name-bounds}
 use Rattle.keys.proofs.LoadWhole.{no-first, up, first-keyed, first-T, first-added, refused-load}
-use borrow.Author.Rules.{rules}
 use Rattle.keys.proofs.load.load.Goals as goal
 
 pub line_at-requires : goal.line_at-requires

@@ -1,10 +1,9 @@
 -- The entries of the key names behind i are written, and nothing below them is changed.
-use Prim.Native.Nat.{◌+◌, ◌-◌, ◌≤◌}
+use Prim.Native.Nat.{◌+◌}
 use native.Mathlib.Omega.{arith}
 use lib.ListN.{drop}
-use Rattle.keys.specs.Rows.{Rowed}
 use Rattle.keys.proofs.RowLaws.{row_from, row_within, rowed-fits, rowed-turn}
-use Rattle.keys.proofs.LoadCells.{KeysGoing, keys-start, keys-fit, keys-turn, keys-end, len-32}
+use Rattle.keys.proofs.LoadCells.{keys-start, keys-fit, keys-turn, keys-end, len-32}
 use Rattle.keys.proofs.load.put_keys.Goals as goal
 
 pub overflow_add-k : goal.overflow_add-k

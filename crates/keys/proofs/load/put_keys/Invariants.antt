@@ -1,10 +1,7 @@
 -- The entries of the key names behind i are written, and nothing below them is changed.
 use Prim.Native.Nat.{◌+◌, ◌-◌, ◌≤◌}
-use native.Mathlib.Omega.{arith}
-use lib.ListN.{drop}
 use Rattle.keys.specs.Rows.{Rowed}
-use Rattle.keys.proofs.RowLaws.{row_from, row_within, rowed-fits, rowed-turn}
-use Rattle.keys.proofs.LoadCells.{KeysGoing, keys-start, keys-fit, keys-turn, keys-end, len-32}
+use Rattle.keys.proofs.LoadCells.{KeysGoing}
 use Rattle.keys.proofs.load.put_keys.Given as goal
 
 abbrev pub invariant-loop-i : goal.invariant-loop-i

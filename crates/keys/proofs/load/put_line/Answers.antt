@@ -6,7 +6,6 @@ use mathlib.Core.Bool.{not}
 use lib.Dec.{eqb}
 use lib.ListN.{length}
 use Rattle.keys.proofs.LoadCells.{entry_set, entry-size, line-put, bit-1, room-kept}
-use borrow.Author.Rules.{rules}
 use Rattle.keys.proofs.load.put_line.Goals as goal
 
 pub overflow_add-place-2 : goal.overflow_add-place-2

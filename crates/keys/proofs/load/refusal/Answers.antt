@@ -1,6 +1,5 @@
 -- Where the rest is in the notation, so is the whole, and the broken rule tells.
 use Rattle.keys.specs.LineRead.{read-notation, read-refused}
-use borrow.Author.Rules.{rules}
 use Rattle.keys.proofs.load.refusal.Goals as goal
 
 pub returns-then-in_notation_from : goal.returns-then-in_notation_from

@@ -1,9 +1,7 @@
 -- The names behind i are counted.
 use Prim.Native.Nat.{◌-◌, ◌≤◌}
-use native.Mathlib.Omega.{arith}
 use Rattle.keys.specs.Rows.{Rowed}
-use Rattle.keys.proofs.RowLaws.{row_from, row_within, rowed-fits}
-use Rattle.keys.proofs.LoadSteps.{Counted, count-starts, count_turn, count-ends, rowed-go}
+use Rattle.keys.proofs.LoadSteps.{Counted}
 use Rattle.keys.proofs.load.row_len.Given as goal
 
 abbrev pub invariant-loop-i : goal.invariant-loop-i

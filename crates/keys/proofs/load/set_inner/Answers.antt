@@ -1,7 +1,6 @@
 -- The lowest bit is set without overflow.
 use Prim.Native.Nat.{◌+◌, ◌*◌}
 use native.Mathlib.Omega.{arith}
-use borrow.Author.Rules.{rules}
 use Rattle.keys.proofs.load.set_inner.Goals as goal
 
 pub overflow_add-table : goal.overflow_add-table

@@ -1,17 +1,14 @@
 -- `keys::measure::measure_content` and `measure_node` meet their contracts: what is measured of all nodes is, after the sizes so far, what is
 -- measured of the nodes to come. The nodes left fall. Assumes nothing.
 use native.Mathlib.Omega.{arith}
-use mathlib.Core.Path.{◌≡◌, ap, sym, ◌∙◌, subst}
-use mathlib.Core.Bool.{false}
-use borrow.Author.Rules.{rules}
+use mathlib.Core.Path.{ap, sym, ◌∙◌, subst}
 use Rattle.xml.specs.Read.{unescape}
-use Rattle.xml.specs.Tape.{next_at}
 use Rattle.xml.specs.TapeLaws.{bytes_at, text-node}
 use Rattle.keys.specs.Version.{◌▸◌}
-use Rattle.keys.specs.Walks.{Walk, OfNodes, walk-front, walk-node, walk-next, walk-kids, Going, going_start, going_more, going-found, going_done}
+use Rattle.keys.specs.Walks.{walk-front, walk-node, walk-next, walk-kids, going_start, going_more, going-found, going_done}
 use Rattle.keys.specs.Measure.{Within, measured}
 use Rattle.keys.specs.MeasureLaws.{measured-end, measured-text, measured-within, tags-within, measured-stop, measured-past, measured-inside, onward-stop, onward-on}
-use Prim.Native.Nat.{ℕ, ◌+◌, ◌*◌, ◌-◌, ◌<◌, ◌≤◌}
+use Prim.Native.Nat.{◌<◌}
 use Rattle.keys.proofs.measure.+measure_content_measure_node.Goals as goal
 
 pub measure_content-loop-p-init : goal.measure_content-loop-p-init

@@ -2,7 +2,6 @@
 use native.Mathlib.Omega.{arith}
 use mathlib.Core.Path.{sym, ◌∙◌}
 use Rattle.keys.specs.MeasureLaws.{plus-many, plus-long, plus-fits}
-use borrow.Author.Rules.{rules}
 use Rattle.keys.proofs.measure.add.Goals as goal
 
 pub returns-then-s-nodes-gt512 : goal.returns-then-s-nodes-gt512

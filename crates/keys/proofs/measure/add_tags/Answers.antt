@@ -4,7 +4,6 @@ use mathlib.Core.Path.{sym, ◌∙◌}
 use mathlib.Core.Bool.{true, false}
 use Rattle.xml.specs.Bytes.{bytes_compute}
 use Rattle.keys.specs.MeasureLaws.{plus-tags}
-use borrow.Author.Rules.{rules}
 use Rattle.keys.proofs.measure.add_tags.Goals as goal
 
 pub same_bytes-requires : goal.same_bytes-requires

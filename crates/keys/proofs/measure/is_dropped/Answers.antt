@@ -1,7 +1,5 @@
 -- `keys::measure::is_dropped` meets its contract: above a frontier, and white. Assumes nothing.
 use mathlib.Core.Path.{refl, sym, ◌∙◌}
-use borrow.Author.Tests.{not-true, not-false}
-use borrow.Author.Rules.{rules}
 use Rattle.keys.proofs.measure.is_dropped.Goals as goal
 
 pub returns-then-not-is_above : goal.returns-then-not-is_above

@@ -4,7 +4,6 @@ use mathlib.Core.List.{[]}
 use Rattle.keys.specs.declared.measure.Sizes.{Sizes}
 use Rattle.keys.specs.PlaceLaws.{place-root}
 use Rattle.keys.specs.MeasureTotal.{measured-large}
-use borrow.Author.Rules.{rules}
 use Rattle.keys.proofs.measure.too_large.Goals as goal
 
 pub returns : goal.returns

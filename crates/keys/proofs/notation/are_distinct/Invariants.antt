@@ -1,9 +1,8 @@
 -- The names from i on are distinct exactly if all are.
 use Prim.Native.Nat.{◌-◌}
-use native.Mathlib.Omega.{arith}
 use Rattle.xml.specs.Bytes.{distinct, same}
 use Rattle.keys.specs.Rows.{Rowed}
-use Rattle.keys.proofs.RowLaws.{Along, along-starts, distinct-found, distinct-turn, distinct-ends, row_within, row_from, rowed-fits, rowed-turn, rowed-next}
+use Rattle.keys.proofs.RowLaws.{Along}
 use Rattle.keys.proofs.notation.are_distinct.Given as goal
 
 abbrev pub invariant-loop-i : goal.invariant-loop-i

@@ -2,7 +2,6 @@
 use mathlib.Core.Path.{sym, ◌∙◌}
 use mathlib.Core.List.{[], ◌∷◌}
 use Rattle.keys.proofs.LineReadLaws.{first-context, no-first-context, no-bracket, no-path, later-context, word_fits}
-use borrow.Author.Rules.{rules}
 use Rattle.keys.proofs.notation.context_end.Goals as goal
 
 pub returns-then-same-eq2 : goal.returns-then-same-eq2

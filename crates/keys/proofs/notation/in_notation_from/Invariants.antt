@@ -1,11 +1,7 @@
 -- The lines read so far are keys.
 use Prim.Native.Nat.{◌-◌, ◌<◌}
-use native.Mathlib.Omega.{arith}
-use borrow.Author.Rules.{rules}
 use lib.ListN.{length}
-use Rattle.keys.specs.LineRead.{Upto, read-line, read_none}
-use Rattle.keys.proofs.LineScanLaws.{begun-none}
-use Rattle.keys.proofs.NotationPass.{pass-goes, pass-fails, pass-ends}
+use Rattle.keys.specs.LineRead.{Upto}
 use Rattle.keys.proofs.notation.in_notation_from.Given as goal
 
 abbrev pub invariant-loop-at : goal.invariant-loop-at

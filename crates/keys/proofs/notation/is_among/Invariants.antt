@@ -1,11 +1,9 @@
 -- The names from i on have the answer of all of them.
 use Prim.Native.Nat.{◌-◌}
-use native.Mathlib.Omega.{arith}
-use mathlib.Core.Path.{sym, ◌∙◌}
 use lib.Seq.{slice}
 use Rattle.xml.specs.Bytes.{any, same}
 use Rattle.keys.specs.Rows.{Rowed}
-use Rattle.keys.proofs.RowLaws.{Along, along-starts, among-found, among-turn, among-ends, row_within, row_from, rowed-fits, rowed-turn}
+use Rattle.keys.proofs.RowLaws.{Along}
 use Rattle.keys.proofs.notation.is_among.Given as goal
 
 abbrev pub invariant-loop-i : goal.invariant-loop-i

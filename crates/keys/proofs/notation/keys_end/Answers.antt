@@ -1,7 +1,6 @@
 -- No key names, or one to four.
 use mathlib.Core.Path.{sym, ◌∙◌}
 use Rattle.keys.proofs.LineReadLaws.{no_keys, some-keys}
-use borrow.Author.Rules.{rules}
 use Rattle.keys.proofs.notation.keys_end.Goals as goal
 
 pub returns-then-same-eq1 : goal.returns-then-same-eq1

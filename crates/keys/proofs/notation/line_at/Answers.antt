@@ -1,7 +1,6 @@
 -- A line up to the `, {` after its name: a part that is missing shows that there is none.
 use mathlib.Core.Path.{sym, ◌∙◌}
 use native.Mathlib.Omega.{arith}
-use borrow.Author.Rules.{rules}
 use Rattle.keys.proofs.LineLaws.{no-context, no-comma, no_name, no-keys-open, name-starts, name-stops, name-read}
 use Rattle.keys.proofs.notation.line_at.Goals as goal
 

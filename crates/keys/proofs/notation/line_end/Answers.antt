@@ -1,8 +1,6 @@
 -- The rest of a line: its key names, distinct, and `}))`.
 use mathlib.Core.Path.{sym, ◌∙◌}
-use borrow.Author.Tests.{not-true, not-false}
 use Rattle.keys.proofs.LineLaws.{closing-fits, no-closing, keys-rowed, not-once, no-keys-end, line-is}
-use borrow.Author.Rules.{rules}
 use Rattle.keys.proofs.notation.line_end.Goals as goal
 
 pub same-requires : goal.same-requires

@@ -1,9 +1,7 @@
 -- The names end where those that are left do.
-use Prim.Native.Nat.{ℕ, suc, ◌+◌, ◌-◌, ◌≤◌}
+use Prim.Native.Nat.{ℕ, suc, ◌+◌, ◌-◌}
 use native.Mathlib.Omega.{arith}
 use mathlib.Core.Path.{◌≡◌, refl, sym, ◌∙◌, ap}
-use borrow.Author.Rules.{rules}
-use lib.ListN.{length}
 use Rattle.xml.specs.Bytes.{bytes}
 use Rattle.keys.specs.LineScans.{names_end}
 use Rattle.keys.proofs.NamesEndLaws.{names-fail, names-stop, names-turn, names-fit, names-over, comma-fits}

@@ -1,11 +1,8 @@
 -- The path counted so far and what is left make the whole.
 use Prim.Native.Nat.{◌+◌, ◌-◌, ◌≤◌}
-use native.Mathlib.Omega.{arith}
-use mathlib.Core.Path.{◌≡◌, refl, sym, ◌∙◌}
-use borrow.Author.Rules.{rules}
+use mathlib.Core.Path.{◌≡◌}
 use lib.ListN.{length, drop}
 use Rattle.keys.specs.LineScans.{path_run}
-use Rattle.keys.proofs.LineScanLaws.{slash-fits, name-fits, path-turn, path-stop, path-off}
 use Rattle.keys.proofs.notation.path_end.Given as goal
 
 abbrev pub invariant-loop-n : goal.invariant-loop-n

@@ -1,9 +1,7 @@
 -- `insert` meets its contract: the entries passed are one further.
-use Prim.Native.Nat.{◌-◌, ◌≤◌}
-use native.Mathlib.Omega.{arith}
-use mathlib.Core.Path.{◌≡◌, ◌∙◌, ap}
-use lib.ListN.{get_or, set}
-use Rattle.keys.specs.Entries.{shifted_to, shifted_none, shifted-more, shifted-put}
+use Prim.Native.Nat.{◌≤◌}
+use mathlib.Core.Path.{◌≡◌}
+use Rattle.keys.specs.Entries.{shifted_to}
 use Rattle.keys.proofs.order.insert.Given as goal
 
 abbrev pub invariant-loop-i : goal.invariant-loop-i

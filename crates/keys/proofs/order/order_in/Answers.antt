@@ -1,17 +1,14 @@
 -- `order_in` meets its contract: the elements passed are the entries, in order.
-use Prim.Native.Nat.{◌*◌, ◌+◌, ◌-◌, ◌%◌, ◌≤◌, ◌<◌}
+use Prim.Native.Nat.{◌%◌, ◌<◌}
 use native.Mathlib.Omega.{arith}
 use mathlib.Core.Path.{◌≡◌, refl}
-use lib.ListN.{length}
-use Rattle.xml.specs.Forest.{Forest}
-use Rattle.xml.specs.Tape.{head_at, Tape}
+use Rattle.xml.specs.Tape.{head_at}
 use Rattle.xml.specs.TapeLaws.{Front, front}
-use Rattle.keys.specs.Placed.{OfPlace}
 use Rattle.keys.specs.Labelled.{Labelled}
-use Rattle.keys.specs.Checked.{Checked, checked-next, checked-here}
+use Rattle.keys.specs.Checked.{checked-next, checked-here}
 use Rattle.keys.specs.Walks.{parted}
 use Rattle.keys.specs.Siblings.{in_order}
-use Rattle.keys.specs.Entries.{AllEntries, Inserted, inserted, inserted-all}
+use Rattle.keys.specs.Entries.{Inserted, inserted, inserted-all}
 use Rattle.keys.specs.Gathering.{Gathering, gathering-start, gathering-skip, gathering-room, gathering-twice, gathering-more, gathering-done}
 use Rattle.keys.proofs.order.order_in.Goals as goal
 
@@ -70,17 +67,17 @@ loop-p-preserved-else-j-eq513 c =
     let put : Inserted c.loop-p.order c.loop-p.k c.rank_of-j.result c.loop-p.p c.insert.new.order = inserted c.insert.ensures c.loop-p.invariant.2 (c.rank_of-j.ensures.inside c.if-j-eq513.false) (room) in
     let turn : Front c.args.src.now c.args.tape.now c.loop-p.p c.args.hi = front c.loop-p.invariant.1.tape c.loop-p-test.true in
     rw c.view_at-v.ensures (
-  omega (arith, turn.forward, c.loop-p.invariant.0),
-  checked-next c.loop-p.invariant.1 c.loop-p-test.true,
-  put.long,
-  inserted-all put (c.rank_of-j.ensures.inside c.if-j-eq513.false) (Labelled c.args.text.now c.args.table.now c.args.n c.args.place c.args.src.now c.args.tape.now) c.loop-p.invariant.3
-      (checked-here c.loop-p.invariant.1 c.loop-p-test.true kind),
-  λ K q t e f h.
-      let x = c.loop-p.invariant.4 K q t e f h in
-      let y = parted x.tape c.loop-p-test.true kind in
-      gathering-more x y (c.rank_of-j.ensures.rank K q t e y.name y.kids y.node y.inner c.args.lo c.args.hi (in_order K q x.passed) x.lists) c.if-j-eq513.false
-      put c.loop-p.invariant.0 turn.inside,
-)
+      omega (arith, turn.forward, c.loop-p.invariant.0),
+      checked-next c.loop-p.invariant.1 c.loop-p-test.true,
+      put.long,
+      inserted-all put (c.rank_of-j.ensures.inside c.if-j-eq513.false) (Labelled c.args.text.now c.args.table.now c.args.n c.args.place c.args.src.now c.args.tape.now) c.loop-p.invariant.3
+          (checked-here c.loop-p.invariant.1 c.loop-p-test.true kind),
+      λ K q t e f h.
+          let x = c.loop-p.invariant.4 K q t e f h in
+          let y = parted x.tape c.loop-p-test.true kind in
+          gathering-more x y (c.rank_of-j.ensures.rank K q t e y.name y.kids y.node y.inner c.args.lo c.args.hi (in_order K q x.passed) x.lists) c.if-j-eq513.false
+          put c.loop-p.invariant.0 turn.inside,
+    )
 
 pub loop-p-smaller : goal.loop-p-smaller
 loop-p-smaller c =
@@ -91,12 +88,12 @@ pub loop-p-preserved : goal.loop-p-preserved
 loop-p-preserved c =
     let turn : Front c.args.src.now c.args.tape.now c.loop-p.p c.args.hi = front c.loop-p.invariant.1.tape c.loop-p-test.true in
     rw c.view_at-v.ensures (
-  omega (arith, turn.forward, c.loop-p.invariant.0),
-  checked-next c.loop-p.invariant.1 c.loop-p-test.true,
-  c.loop-p.invariant.2,
-  c.loop-p.invariant.3,
-  λ K q t e f h. gathering-skip (c.loop-p.invariant.4 K q t e f h) c.loop-p-test.true (rw c.view_at-v.ensures at c.if-v-eq1.false),
-)
+      omega (arith, turn.forward, c.loop-p.invariant.0),
+      checked-next c.loop-p.invariant.1 c.loop-p-test.true,
+      c.loop-p.invariant.2,
+      c.loop-p.invariant.3,
+      λ K q t e f h. gathering-skip (c.loop-p.invariant.4 K q t e f h) c.loop-p-test.true (rw c.view_at-v.ensures at c.if-v-eq1.false),
+    )
 
 pub returns : goal.returns
 returns c =

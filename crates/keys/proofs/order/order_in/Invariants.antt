@@ -1,18 +1,14 @@
 -- `order_in` meets its contract: the elements passed are the entries, in order.
-use Prim.Native.Nat.{◌*◌, ◌+◌, ◌-◌, ◌%◌, ◌≤◌, ◌<◌}
-use native.Mathlib.Omega.{arith}
-use mathlib.Core.Path.{◌≡◌, refl}
+use Prim.Native.Nat.{◌-◌, ◌≤◌}
+use mathlib.Core.Path.{◌≡◌}
 use lib.ListN.{length}
 use Rattle.xml.specs.Forest.{Forest}
-use Rattle.xml.specs.Tape.{head_at, Tape}
-use Rattle.xml.specs.TapeLaws.{Front, front}
+use Rattle.xml.specs.Tape.{Tape}
 use Rattle.keys.specs.Placed.{OfPlace}
 use Rattle.keys.specs.Labelled.{Labelled}
-use Rattle.keys.specs.Checked.{Checked, checked-next, checked-here}
-use Rattle.keys.specs.Walks.{parted}
-use Rattle.keys.specs.Siblings.{in_order}
-use Rattle.keys.specs.Entries.{AllEntries, Inserted, inserted, inserted-all}
-use Rattle.keys.specs.Gathering.{Gathering, gathering-start, gathering-skip, gathering-room, gathering-twice, gathering-more, gathering-done}
+use Rattle.keys.specs.Checked.{Checked}
+use Rattle.keys.specs.Entries.{AllEntries}
+use Rattle.keys.specs.Gathering.{Gathering}
 use Rattle.keys.proofs.order.order_in.Given as goal
 
 abbrev pub invariant-loop-p : goal.invariant-loop-p

@@ -1,14 +1,7 @@
 -- `rank_of` meets its contract: the label before `low` is lower, that at `high` is higher.
-use Prim.Native.Nat.{ℕ, ◌+◌, ◌-◌, ◌≤◌}
 use native.Mathlib.Omega.{arith}
 use mathlib.Core.Path.{refl}
-use Rattle.xml.specs.Bytes.{Bytes}
-use Rattle.xml.specs.Forest.{Forest}
-use Rattle.xml.specs.Tape.{next_at, Node, Tape}
-use Rattle.keys.specs.Version.{label}
-use Rattle.keys.specs.Placed.{OfPlace}
-use Rattle.keys.specs.Entries.{Lists}
-use Rattle.keys.specs.Gathering.{Ranking, ranking-start, ranking-done, ranking-at, ranking-same, ranking-above, ranking-below}
+use Rattle.keys.specs.Gathering.{ranking-start, ranking-done, ranking-at, ranking-same, ranking-above, ranking-below}
 use Rattle.keys.proofs.order.rank_of.Goals as goal
 
 pub loop-low-init : goal.loop-low-init
@@ -31,12 +24,12 @@ compare_labels-o-requires c = (c.requires.2 c.probe-mid.result (omega (arith, c.
 
 pub returns-then-o-eq1 : goal.returns-then-o-eq1
 returns-then-o-eq1 c = record {
-      inside = λ d. absurd (d refl);
-      rank = λ K q t e m i a b lo hi s h.
-          let x = c.loop-low.invariant.2 K q t e m i a b lo hi s h in
-          let z = ranking-at x c.probe-mid.result c.probe-mid.ensures.0 c.probe-mid.ensures.1 in
-          ranking-same x c.probe-mid.result c.probe-mid.ensures.0 c.probe-mid.ensures.1 c.compare_labels-o.result (c.compare_labels-o.ensures K q t e z.name z.kids m i z.entry.node z.entry.inner a b) c.if-o-eq1.true;
-    }
+  inside = λ d. absurd (d refl);
+  rank = λ K q t e m i a b lo hi s h.
+      let x = c.loop-low.invariant.2 K q t e m i a b lo hi s h in
+      let z = ranking-at x c.probe-mid.result c.probe-mid.ensures.0 c.probe-mid.ensures.1 in
+      ranking-same x c.probe-mid.result c.probe-mid.ensures.0 c.probe-mid.ensures.1 c.compare_labels-o.result (c.compare_labels-o.ensures K q t e z.name z.kids m i z.entry.node z.entry.inner a b) c.if-o-eq1.true;
+}
 
 pub overflow_add-low : goal.overflow_add-low
 overflow_add-low c = omega (arith, c.probe-mid.ensures.1, c.loop-low.invariant.1, c.requires.0)
@@ -69,6 +62,6 @@ loop-low-preserved c = (
 
 pub returns : goal.returns
 returns c = record {
-      inside = λ d. omega (arith, c.loop-low.invariant.0, c.loop-low.invariant.1);
-      rank = λ K q t e m i a b lo hi s h. ranking-done (c.loop-low.invariant.2 K q t e m i a b lo hi s h) c.loop-low-test.false;
-    }
+  inside = λ d. omega (arith, c.loop-low.invariant.0, c.loop-low.invariant.1);
+  rank = λ K q t e m i a b lo hi s h. ranking-done (c.loop-low.invariant.2 K q t e m i a b lo hi s h) c.loop-low-test.false;
+}

@@ -1,14 +1,12 @@
 -- `rank_of` meets its contract: the label before `low` is lower, that at `high` is higher.
 use Prim.Native.Nat.{ℕ, ◌+◌, ◌-◌, ◌≤◌}
-use native.Mathlib.Omega.{arith}
-use mathlib.Core.Path.{refl}
 use Rattle.xml.specs.Bytes.{Bytes}
 use Rattle.xml.specs.Forest.{Forest}
 use Rattle.xml.specs.Tape.{next_at, Node, Tape}
 use Rattle.keys.specs.Version.{label}
 use Rattle.keys.specs.Placed.{OfPlace}
 use Rattle.keys.specs.Entries.{Lists}
-use Rattle.keys.specs.Gathering.{Ranking, ranking-start, ranking-done, ranking-at, ranking-same, ranking-above, ranking-below}
+use Rattle.keys.specs.Gathering.{Ranking}
 use Rattle.keys.proofs.order.rank_of.Given as goal
 
 abbrev pub invariant-loop-low : goal.invariant-loop-low

@@ -1,16 +1,9 @@
 -- `keys::placed::misplaced_content` and `misplaced_node` meet their contracts: the loop's answer is that of the nodes to come, and a node's is
 -- that of its element's name and of what it holds. The nodes left fall. Assumes nothing.
-use native.Mathlib.Omega.{arith}
-use mathlib.Core.Path.{ap, sym, ◌∙◌}
-use mathlib.Core.Bool.{not}
-use borrow.Author.Tests.{not-true, not-false}
-use Rattle.xml.specs.Read.{unescape}
 use Rattle.xml.specs.Tape.{next_at}
-use Rattle.xml.specs.TapeLaws.{bytes_at, text-node, inner-node}
-use Rattle.keys.specs.Version.{◌▸◌}
-use Rattle.keys.specs.Walks.{Walk, OfNodes, walk-front, walk-node, walk-next, walk-kids, Going, going_start, going_more, going-found, going_done}
-use Rattle.keys.specs.Strays.{astray, astray-end, astray-under, astray-run, astray-other, astray-strange, astray-inside, astray-here, astray-past}
-use Prim.Native.Nat.{ℕ, ◌+◌, ◌*◌, ◌-◌, ◌<◌, ◌≤◌}
+use Rattle.keys.specs.Walks.{Walk, OfNodes, Going}
+use Rattle.keys.specs.Strays.{astray}
+use Prim.Native.Nat.{◌+◌, ◌*◌, ◌-◌, ◌≤◌}
 use Rattle.keys.proofs.placed.+misplaced_content_misplaced_node.Given as goal
 
 abbrev pub decreases-misplaced_content : goal.decreases-misplaced_content

@@ -2,7 +2,6 @@
 use mathlib.Core.List.{[]}
 use Rattle.keys.specs.PlaceLaws.{place-root}
 use Rattle.keys.specs.Strays.{astray}
-use borrow.Author.Rules.{rules}
 use Rattle.keys.proofs.placed.is_misplaced.Goals as goal
 
 pub returns : goal.returns

@@ -1,12 +1,10 @@
 -- `keys::placed::is_strange` meets its contract: the place 129 is that of a path not in the list. Assumes nothing.
 use mathlib.Core.Path.{sym, ◌∙◌}
 use lib.Seq.{slice}
-use borrow.Author.Tests.{not-true, not-false}
 use Rattle.xml.specs.Bytes.{bytes_compute}
 use Rattle.keys.specs.TableLaws.{table-rules}
 use Rattle.keys.specs.Strays.{strange-named, strange-under, strange-below}
 use native.Mathlib.Omega.{arith}
-use borrow.Author.Rules.{rules}
 use Rattle.keys.proofs.placed.is_strange.Goals as goal
 
 pub same_bytes-requires : goal.same_bytes-requires

@@ -1,13 +1,12 @@
-use Prim.Native.Nat.{◌-◌, ◌≤◌}
+use Prim.Native.Nat.{◌≤◌}
 use native.Mathlib.Omega.{arith}
-use mathlib.Core.Path.{◌≡◌, refl, sym, ◌∙◌, ap}
-use mathlib.Core.Bool.{true, false}
-use borrow.Author.Tests.{not-true, not-false}
+use mathlib.Core.Path.{◌≡◌, sym, ◌∙◌}
+use mathlib.Core.Bool.{true}
 use lib.Seq.{slice}
 use Rattle.keys.specs.KeyList.{above}
 use Rattle.keys.specs.Placed.{OfPlace}
 use Rattle.keys.specs.Places.{first_below}
-use Rattle.keys.specs.TableLaws.{table-first, NoChild, search-starts, search-goes, search-shut, search-finds, search-ends}
+use Rattle.keys.specs.TableLaws.{table-first, search-starts, search-goes, search-shut, search-finds, search-ends}
 use Rattle.keys.proofs.places.child.Goals as goal
 
 -- src/places.rt:102:9

@@ -1,5 +1,4 @@
 use Rattle.keys.specs.TableLaws.{first-top, first-after}
-use borrow.Author.Rules.{rules}
 use Rattle.keys.proofs.places.first_below.Goals as goal
 
 -- src/places.rt:84:9

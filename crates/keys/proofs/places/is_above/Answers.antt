@@ -2,7 +2,6 @@ use native.Mathlib.Omega.{arith}
 use mathlib.Core.Path.{sym}
 use Rattle.keys.specs.KeyList.{above}
 use Rattle.keys.specs.TableLaws.{table-top, table-out, table-off, table-inner, inner-bit}
-use borrow.Author.Rules.{rules}
 use Rattle.keys.proofs.places.is_above.Goals as goal
 
 -- src/places.rt:39:9

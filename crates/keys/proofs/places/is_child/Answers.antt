@@ -4,7 +4,6 @@ use mathlib.Core.Path.{sym}
 use lib.ListN.{length}
 use lib.Seq.{slice}
 use Rattle.keys.specs.TableLaws.{part-within, child-not, child-by}
-use borrow.Author.Rules.{rules}
 use Rattle.keys.proofs.places.is_child.Goals as goal
 
 -- src/places.rt:63:8

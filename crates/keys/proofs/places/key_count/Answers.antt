@@ -2,7 +2,6 @@ use native.Mathlib.Omega.{arith}
 use mathlib.Core.Path.{sym, ap}
 use lib.ListN.{length}
 use Rattle.keys.specs.TableLaws.{table-bare, table-keys}
-use borrow.Author.Rules.{rules}
 use Rattle.keys.proofs.places.key_count.Goals as goal
 
 -- src/places.rt:53:9

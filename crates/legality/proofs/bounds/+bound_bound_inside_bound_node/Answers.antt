@@ -2,13 +2,12 @@
 -- (`Gone`): what a version has of the nodes passed. Assumes nothing.
 use native.Mathlib.Omega.{arith}
 use mathlib.Core.Path.{◌≡◌, sym, ◌∙◌, ap}
-use borrow.Author.Rules.{rules}
 use Rattle.xml.specs.Tape.{head_at, next_at}
 use Rattle.xml.specs.TapeLaws.{Front, OneRun, front, one-run, tape-le}
 use Rattle.versions.specs.Rendered.{valid-inside}
 use Rattle.legality.specs.Going.{text-short, name-length}
-use Rattle.legality.specs.Bounds.{Most, Gone, stopped-bounds, packed-bounds, text-most, run-most, element-most, timed-most, node-held, gone-start, gone-front, gone-next, gone-plain, gone-content, gone-done}
-use Prim.Native.Nat.{ℕ, ◌+◌, ◌*◌, ◌-◌, ◌/◌, ◌%◌, ◌<◌}
+use Rattle.legality.specs.Bounds.{Most, stopped-bounds, packed-bounds, text-most, run-most, element-most, timed-most, node-held, gone-start, gone-front, gone-next, gone-plain, gone-content, gone-done}
+use Prim.Native.Nat.{ℕ, ◌+◌, ◌-◌, ◌/◌, ◌%◌}
 use Rattle.legality.proofs.bounds.+bound_bound_inside_bound_node.Goals as goal
 
 pub bound-loop-p-init : goal.bound-loop-p-init

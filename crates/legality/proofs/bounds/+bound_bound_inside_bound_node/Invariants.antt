@@ -1,14 +1,8 @@
 -- `legality::bounds::bound`, `bound_inside` and `bound_node` meet their contracts: the nodes inside one are fewer. The loop's invariant
 -- (`Gone`): what a version has of the nodes passed. Assumes nothing.
-use native.Mathlib.Omega.{arith}
-use mathlib.Core.Path.{◌≡◌, sym, ◌∙◌, ap}
-use borrow.Author.Rules.{rules}
-use Rattle.xml.specs.Tape.{head_at, next_at}
-use Rattle.xml.specs.TapeLaws.{Front, OneRun, front, one-run, tape-le}
-use Rattle.versions.specs.Rendered.{valid-inside}
-use Rattle.legality.specs.Going.{text-short, name-length}
-use Rattle.legality.specs.Bounds.{Most, Gone, stopped-bounds, packed-bounds, text-most, run-most, element-most, timed-most, node-held, gone-start, gone-front, gone-next, gone-plain, gone-content, gone-done}
-use Prim.Native.Nat.{ℕ, ◌+◌, ◌*◌, ◌-◌, ◌/◌, ◌%◌, ◌<◌}
+use Rattle.xml.specs.Tape.{next_at}
+use Rattle.legality.specs.Bounds.{Gone}
+use Prim.Native.Nat.{◌+◌, ◌*◌, ◌-◌}
 use Rattle.legality.proofs.bounds.+bound_bound_inside_bound_node.Given as goal
 
 abbrev pub decreases-bound : goal.decreases-bound

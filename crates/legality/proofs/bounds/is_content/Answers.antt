@@ -1,7 +1,6 @@
 -- `legality::bounds::is_content` meets its contract. Assumes nothing.
 use mathlib.Core.Path.{sym}
 use Rattle.legality.specs.Bounds.{other-node, timed-node}
-use borrow.Author.Rules.{rules}
 use Rattle.legality.proofs.bounds.is_content.Goals as goal
 
 pub returns-then-v-ne2 : goal.returns-then-v-ne2

@@ -1,10 +1,8 @@
 -- `legality::few::are_few` meets its contract. The loop's invariant: k siblings are passed. Assumes nothing.
-use Prim.Native.Nat.{ℕ, ◌+◌, ◌-◌, ◌≤◌}
+use Prim.Native.Nat.{ℕ, ◌+◌}
 use native.Mathlib.Omega.{arith}
 use mathlib.Core.Path.{◌≡◌, sym, ◌∙◌, ap}
 use borrow.Author.Tests.{le-leb, lt-leb}
-use Rattle.xml.specs.Forest.{Forest}
-use Rattle.xml.specs.Tape.{Tape, Valid}
 use Rattle.xml.specs.TapeLaws.{front, split, tape-le, tape-one}
 use Rattle.legality.specs.Few.{siblings, siblings-none, siblings-more}
 use Rattle.legality.proofs.few.are_few.Goals as goal

@@ -1,22 +1,14 @@
 -- `legality::few::few_legal` meets its contract. The loop's invariant (`Way`): the answer is that for the nodes left, after those passed,
 -- whose contents' versions are those of `times` that are not left. Assumes nothing.
-use Prim.Native.Nat.{◌-◌, ◌%◌, ◌≤◌}
-use native.Mathlib.Omega.{arith}
-use mathlib.Core.Path.{◌≡◌, refl, sym, ◌∙◌, ap}
-use mathlib.Core.Bool.{true}
-use borrow.Author.Rules.{rules}
+use Prim.Native.Nat.{◌-◌, ◌≤◌}
+use mathlib.Core.Path.{◌≡◌}
 use lib.ListN.{length}
 use Rattle.xml.specs.Forest.{Forest, end}
-use Rattle.xml.specs.Tape.{Tape, Valid, head_at, at-end}
-use Rattle.xml.specs.TapeLaws.{Front, bytes_at, front, split, tape-join}
-use Rattle.xml.specs.SameTapes.{not-true, not-false}
+use Rattle.xml.specs.Tape.{Tape, Valid}
 use Rattle.timestamp.specs.Set.{set_of, empty_set, without}
 use Rattle.timestamp.specs.Listed.{Only}
-use Rattle.timestamp.specs.Parses.{text-first}
-use Rattle.timestamp.specs.TakenText.{TakesText}
-use Rattle.versions.specs.Branches.{judged, follows, Way, first, way-start, way-few, way-done, way-other}
-use Rattle.versions.specs.Hashes.{way-illegal, way-legal}
-use Rattle.legality.specs.Left.{Within, Took, took, within-read, within-less, none-taken, all-taken, more-taken, left-follow, way-untaken}
+use Rattle.versions.specs.Branches.{judged, Way}
+use Rattle.legality.specs.Left.{Within}
 use Rattle.legality.proofs.few.few_legal.Given as goal
 
 abbrev pub invariant-loop-p : goal.invariant-loop-p

@@ -1,13 +1,9 @@
 -- `legality::few::is_new` meets its contract. The loop's invariant (`Sought`): the content is among all nodes just where it is among those
 -- left. Assumes nothing.
-use Prim.Native.Nat.{◌-◌}
 use native.Mathlib.Omega.{arith}
 use mathlib.Core.Path.{◌≡◌, refl, sym, ◌∙◌}
 use mathlib.Core.Bool.{true, false, and-false}
-use Rattle.xml.specs.Forest.{Forest}
-use Rattle.xml.specs.Tape.{Tape}
 use Rattle.xml.specs.TapeLaws.{Front, front}
-use Rattle.xml.specs.SameTapes.{not-true, not-false}
 use Rattle.keys.specs.Legal.{untimed}
 use Rattle.versions.specs.Branches.{Sought, first, repeats, sought-start, sought-found, sought-more, sought-none}
 use Rattle.legality.proofs.few.is_new.Goals as goal

@@ -1,24 +1,23 @@
 -- `front::branches_legal` meets its contract. The loop's invariant (`Way`): the answer is that for the nodes left, after those passed,
 -- whose contents' versions are those of `times` that are not left, and whose contents' hashes are the first of `hashes` and are set in `seen`;
 -- there are no more of them than the first version of the last. Assumes nothing.
-use Prim.Native.Nat.{◌+◌, ◌-◌, ◌%◌, ◌<◌, ◌≤◌}
+use Prim.Native.Nat.{◌+◌, ◌%◌, ◌<◌}
 use native.Mathlib.Omega.{arith}
 use mathlib.Core.Path.{◌≡◌, refl, sym, ◌∙◌, ap}
 use mathlib.Core.Bool.{true}
 use borrow.Author.Rules.{rules}
-use lib.ListN.{length, take, length-set}
+use lib.ListN.{length, length-set}
 use Rattle.xml.specs.Bytes.{all}
-use Rattle.xml.specs.Forest.{Forest, end}
-use Rattle.xml.specs.Tape.{Tape, Valid, head_at, next_at, at-end}
+use Rattle.xml.specs.Forest.{end}
+use Rattle.xml.specs.Tape.{Valid, head_at, next_at, at-end}
 use Rattle.xml.specs.TapeLaws.{Front, bytes_at, front, split, tape-join}
-use Rattle.xml.specs.SameTapes.{not-true, not-false}
-use Rattle.timestamp.specs.Set.{set_of, empty_set, without}
+use Rattle.timestamp.specs.Set.{set_of, without}
 use Rattle.timestamp.specs.Listed.{Only}
 use Rattle.timestamp.specs.Parses.{text-first}
 use Rattle.timestamp.specs.TakenText.{TakesText}
-use Rattle.versions.specs.Branches.{judged, follows, Way, first, way-start, way-few, way-done, way-other}
-use Rattle.versions.specs.Hashes.{hashes_of, noted-all, note-none, note-next, way-illegal, way-legal}
-use Rattle.legality.specs.Seen.{is_seen, seen_more, hash-fits}
+use Rattle.versions.specs.Branches.{follows, first, way-start, way-few, way-done, way-other}
+use Rattle.versions.specs.Hashes.{noted-all, note-none, note-next, way-illegal, way-legal}
+use Rattle.legality.specs.Seen.{seen_more, hash-fits}
 use Rattle.legality.specs.Left.{Within, Took, took, within-read, within-less, none-taken, all-taken, more-taken, left-follow, way-untaken}
 use Rattle.legality.proofs.front.branches_legal.Goals as goal
 
@@ -69,12 +68,12 @@ pub content_legal-requires : goal.content_legal-requires
 content_legal-requires c =
     let inside : Valid c.args.src.now c.args.tape.now (c.loop-p.p + 1) (next_at c.args.tape.now c.loop-p.p) = record { forest = _; tape = (first c.loop-p.invariant.8.tape c.loop-p-test.true).inside } in
     rw c.view_at-v.ensures (
-  c.loop-p.invariant.7,
-  inside,
-  rw c.view_at-v.ensures at c.hash-h.ensures,
-  λ d t. noted-all _ c.loop-p.count d (c.loop-p.invariant.4 d t),
-  λ d t. rw (c.loop-p.invariant.4 d t) at c.loop-p.invariant.6,
-)
+      c.loop-p.invariant.7,
+      inside,
+      rw c.view_at-v.ensures at c.hash-h.ensures,
+      λ d t. noted-all _ c.loop-p.count d (c.loop-p.invariant.4 d t),
+      λ d t. rw (c.loop-p.invariant.4 d t) at c.loop-p.invariant.6,
+    )
 
 pub returns-then-not-content_legal : goal.returns-then-not-content_legal
 returns-then-not-content_legal c f t o =

@@ -1,25 +1,19 @@
 -- `front::branches_legal` meets its contract. The loop's invariant (`Way`): the answer is that for the nodes left, after those passed,
 -- whose contents' versions are those of `times` that are not left, and whose contents' hashes are the first of `hashes` and are set in `seen`;
 -- there are no more of them than the first version of the last. Assumes nothing.
-use Prim.Native.Nat.{◌+◌, ◌-◌, ◌%◌, ◌<◌, ◌≤◌}
-use native.Mathlib.Omega.{arith}
-use mathlib.Core.Path.{◌≡◌, refl, sym, ◌∙◌, ap}
+use Prim.Native.Nat.{◌-◌, ◌≤◌}
+use mathlib.Core.Path.{◌≡◌}
 use mathlib.Core.Bool.{true}
-use borrow.Author.Rules.{rules}
-use lib.ListN.{length, take, length-set}
+use lib.ListN.{length, take}
 use Rattle.xml.specs.Bytes.{all}
 use Rattle.xml.specs.Forest.{Forest, end}
-use Rattle.xml.specs.Tape.{Tape, Valid, head_at, next_at, at-end}
-use Rattle.xml.specs.TapeLaws.{Front, bytes_at, front, split, tape-join}
-use Rattle.xml.specs.SameTapes.{not-true, not-false}
+use Rattle.xml.specs.Tape.{Tape, Valid}
 use Rattle.timestamp.specs.Set.{set_of, empty_set, without}
 use Rattle.timestamp.specs.Listed.{Only}
-use Rattle.timestamp.specs.Parses.{text-first}
-use Rattle.timestamp.specs.TakenText.{TakesText}
-use Rattle.versions.specs.Branches.{judged, follows, Way, first, way-start, way-few, way-done, way-other}
-use Rattle.versions.specs.Hashes.{hashes_of, noted-all, note-none, note-next, way-illegal, way-legal}
-use Rattle.legality.specs.Seen.{is_seen, seen_more, hash-fits}
-use Rattle.legality.specs.Left.{Within, Took, took, within-read, within-less, none-taken, all-taken, more-taken, left-follow, way-untaken}
+use Rattle.versions.specs.Branches.{judged, Way}
+use Rattle.versions.specs.Hashes.{hashes_of}
+use Rattle.legality.specs.Seen.{is_seen}
+use Rattle.legality.specs.Left.{Within}
 use Rattle.legality.proofs.front.branches_legal.Given as goal
 
 abbrev pub invariant-loop-p : goal.invariant-loop-p

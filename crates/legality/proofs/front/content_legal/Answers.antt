@@ -1,8 +1,6 @@
 -- `front::content_legal` meets its contract: one test a return. Assumes nothing.
 use mathlib.Core.Path.{refl, sym, ◌∙◌, ap}
 use mathlib.Core.Bool.{not}
-use borrow.Author.Rules.{rules}
-use borrow.Author.Tests.{not-true, not-false}
 use Rattle.legality.specs.Seen.{seen-new}
 use Rattle.legality.proofs.front.content_legal.Goals as goal
 

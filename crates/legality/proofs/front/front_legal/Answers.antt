@@ -1,6 +1,5 @@
 -- `legality::front::front_legal` meets its contract: nothing, one content, or contents in their `T`s. Assumes nothing.
 use mathlib.Core.Path.{◌≡◌, sym, ◌∙◌}
-use borrow.Author.Rules.{rules}
 use Rattle.xml.specs.Forest.{Forest, end}
 use Rattle.xml.specs.Tape.{Tape}
 use Rattle.xml.specs.TapeLaws.{front}

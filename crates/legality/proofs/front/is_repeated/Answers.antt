@@ -1,6 +1,6 @@
 -- `legality::front::is_repeated` meets its contract. The loop's invariant (`Sought`): the content is among all nodes just where it is among
 -- those left, whose hashes come from the j-th on. Assumes nothing.
-use Prim.Native.Nat.{◌+◌, ◌-◌, ◌≤◌}
+use Prim.Native.Nat.{◌+◌}
 use native.Mathlib.Omega.{arith}
 use mathlib.Core.Path.{sym, ◌∙◌}
 use borrow.Author.Rules.{rules}
@@ -8,7 +8,7 @@ use Rattle.xml.specs.Forest.{Forest}
 use Rattle.xml.specs.Tape.{Tape, next_at}
 use Rattle.xml.specs.TapeLaws.{Front, front}
 use Rattle.versions.specs.Branches.{Sought, first, sought-start, sought-found, sought-more, sought-none}
-use Rattle.versions.specs.Hashes.{Notes, NotedFirst, noted-first}
+use Rattle.versions.specs.Hashes.{NotedFirst, noted-first}
 use Rattle.legality.proofs.front.is_repeated.Goals as goal
 
 pub loop-p-init : goal.loop-p-init

@@ -3,7 +3,6 @@ use mathlib.Core.Path.{sym, ◌∙◌}
 use lib.Seq.{slice}
 use Rattle.xml.specs.Bytes.{bytes}
 use Rattle.versions.specs.Untimed.{named, timed-two, timed-one, timed-none}
-use borrow.Author.Rules.{rules}
 use Rattle.legality.proofs.front.is_timed.Goals as goal
 
 pub returns-then-kind-eq2 : goal.returns-then-kind-eq2

@@ -1,11 +1,9 @@
 -- `archive::front::is_untimed` meets its contract. The loop's invariant: no node passed is a `T` or named so. Assumes nothing.
-use Prim.Native.Nat.{ℕ, ◌-◌, ◌≤◌, ◌<◌}
 use native.Mathlib.Omega.{arith}
-use mathlib.Core.Path.{◌≡◌, sym, ◌∙◌}
-use mathlib.Core.Bool.{false}
+use mathlib.Core.Path.{sym, ◌∙◌}
 use Rattle.xml.specs.TapeLaws.{tape-le}
 use Rattle.xml.specs.SameTapes.{At, tape-at}
-use Rattle.versions.specs.Untimed.{timed_at, untimed-all, untimed-not, untimed-more}
+use Rattle.versions.specs.Untimed.{untimed-all, untimed-not, untimed-more}
 use Rattle.legality.proofs.front.is_untimed.Goals as goal
 
 pub loop-i-init : goal.loop-i-init

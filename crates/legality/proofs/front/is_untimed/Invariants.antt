@@ -1,11 +1,8 @@
 -- `archive::front::is_untimed` meets its contract. The loop's invariant: no node passed is a `T` or named so. Assumes nothing.
 use Prim.Native.Nat.{ℕ, ◌-◌, ◌≤◌, ◌<◌}
-use native.Mathlib.Omega.{arith}
-use mathlib.Core.Path.{◌≡◌, sym, ◌∙◌}
+use mathlib.Core.Path.{◌≡◌}
 use mathlib.Core.Bool.{false}
-use Rattle.xml.specs.TapeLaws.{tape-le}
-use Rattle.xml.specs.SameTapes.{At, tape-at}
-use Rattle.versions.specs.Untimed.{timed_at, untimed-all, untimed-not, untimed-more}
+use Rattle.versions.specs.Untimed.{timed_at}
 use Rattle.legality.proofs.front.is_untimed.Given as goal
 
 abbrev pub invariant-loop-i : goal.invariant-loop-i

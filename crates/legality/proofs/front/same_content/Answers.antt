@@ -1,6 +1,5 @@
 -- `legality::front::same_content` meets its contract: forests with different hashes differ. Assumes nothing.
 use mathlib.Core.Path.{sym}
-use borrow.Author.Rules.{rules}
 use Rattle.versions.specs.Hashes.{hashes-apart}
 use Rattle.legality.proofs.front.same_content.Goals as goal
 

@@ -2,7 +2,6 @@
 use Prim.Native.Nat.{◌%◌}
 use native.Mathlib.Omega.{arith}
 use lib.ListN.{length-set}
-use borrow.Author.Rules.{rules}
 use Rattle.timestamp.specs.Words.{with-set}
 use Rattle.legality.proofs.front.set_seen.Goals as goal
 

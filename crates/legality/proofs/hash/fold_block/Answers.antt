@@ -1,6 +1,5 @@
 -- `legality::hash::fold_block` meets its contract: the law of sixteen bytes, from the sums of each four. Assumes nothing.
 use Rattle.legality.specs.Folded.{fold-sixteen}
-use borrow.Author.Rules.{rules}
 use Rattle.legality.proofs.hash.fold_block.Goals as goal
 
 pub returns : goal.returns

@@ -1,9 +1,9 @@
 -- `legality::hash::fold_plain` meets its contract. The loop's invariant: folding in the bytes left gives what all of them give. Assumes nothing.
-use Prim.Native.Nat.{◌+◌, ◌-◌, ◌<◌, ◌≤◌}
+use Prim.Native.Nat.{◌+◌}
 use native.Mathlib.Omega.{arith}
-use mathlib.Core.Path.{◌≡◌, refl, sym, ◌∙◌}
+use mathlib.Core.Path.{refl, sym, ◌∙◌}
 use lib.Seq.{slice}
-use Rattle.versions.specs.Hashes.{folded, folded-small}
+use Rattle.versions.specs.Hashes.{folded-small}
 use Rattle.legality.specs.Folded.{fold-part}
 use Rattle.legality.proofs.hash.fold_plain.Goals as goal
 

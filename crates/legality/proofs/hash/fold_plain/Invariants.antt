@@ -1,10 +1,8 @@
 -- `legality::hash::fold_plain` meets its contract. The loop's invariant: folding in the bytes left gives what all of them give. Assumes nothing.
-use Prim.Native.Nat.{◌+◌, ◌-◌, ◌<◌, ◌≤◌}
-use native.Mathlib.Omega.{arith}
-use mathlib.Core.Path.{◌≡◌, refl, sym, ◌∙◌}
+use Prim.Native.Nat.{◌-◌, ◌<◌, ◌≤◌}
+use mathlib.Core.Path.{◌≡◌}
 use lib.Seq.{slice}
-use Rattle.versions.specs.Hashes.{folded, folded-small}
-use Rattle.legality.specs.Folded.{fold-part}
+use Rattle.versions.specs.Hashes.{folded}
 use Rattle.legality.proofs.hash.fold_plain.Given as goal
 
 abbrev pub invariant-loop-i : goal.invariant-loop-i

@@ -1,12 +1,9 @@
 -- `legality::hash::fold_run` meets its contract. The loop's invariant: folding in what is left of the run gives what the whole run gives.
 -- Assumes nothing.
-use Prim.Native.Nat.{◌-◌, ◌<◌, ◌≤◌}
 use native.Mathlib.Omega.{arith}
 use mathlib.Core.Path.{◌≡◌, sym, ◌∙◌, subst}
-use lib.Seq.{slice}
-use Rattle.xml.specs.Read.{unescape}
 use Rattle.xml.specs.SignLaws.{Meant, Running, running, sign-means}
-use Rattle.versions.specs.Hashes.{folded, mixed, mixed-small, folded-small, fold_more, fold_over}
+use Rattle.versions.specs.Hashes.{mixed, mixed-small, folded-small, fold_more, fold_over}
 use Rattle.legality.specs.Folded.{fold-running}
 use Rattle.legality.proofs.hash.fold_run.Goals as goal
 

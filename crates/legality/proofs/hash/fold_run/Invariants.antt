@@ -1,13 +1,10 @@
 -- `legality::hash::fold_run` meets its contract. The loop's invariant: folding in what is left of the run gives what the whole run gives.
 -- Assumes nothing.
 use Prim.Native.Nat.{◌-◌, ◌<◌, ◌≤◌}
-use native.Mathlib.Omega.{arith}
-use mathlib.Core.Path.{◌≡◌, sym, ◌∙◌, subst}
+use mathlib.Core.Path.{◌≡◌}
 use lib.Seq.{slice}
 use Rattle.xml.specs.Read.{unescape}
-use Rattle.xml.specs.SignLaws.{Meant, Running, running, sign-means}
-use Rattle.versions.specs.Hashes.{folded, mixed, mixed-small, folded-small, fold_more, fold_over}
-use Rattle.legality.specs.Folded.{fold-running}
+use Rattle.versions.specs.Hashes.{folded}
 use Rattle.legality.proofs.hash.fold_run.Given as goal
 
 abbrev pub invariant-loop-i : goal.invariant-loop-i

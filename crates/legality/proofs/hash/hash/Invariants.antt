@@ -1,11 +1,7 @@
 -- `legality::hash::hash` meets its contract. The loop's invariant: folding in the nodes left gives the hash of all nodes. Assumes nothing.
-use Prim.Native.Nat.{◌-◌, ◌%◌, ◌≤◌, ◌<◌}
-use native.Mathlib.Omega.{arith}
-use mathlib.Core.Path.{◌≡◌, refl, sym, ◌∙◌}
-use Rattle.xml.specs.Tape.{head_at}
-use Rattle.xml.specs.TapeLaws.{bytes_at, tape-le}
-use Rattle.xml.specs.SameTapes.{At, tape-at}
-use Rattle.versions.specs.Hashes.{hash_node, hash_along, node-small, along-more, along-none, along-tape}
+use Prim.Native.Nat.{◌-◌, ◌≤◌, ◌<◌}
+use mathlib.Core.Path.{◌≡◌}
+use Rattle.versions.specs.Hashes.{hash_along}
 use Rattle.legality.proofs.hash.hash.Given as goal
 
 abbrev pub invariant-loop-i : goal.invariant-loop-i

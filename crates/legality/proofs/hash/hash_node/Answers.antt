@@ -3,7 +3,6 @@ use Prim.Native.Nat.{ℕ}
 use native.Mathlib.Omega.{arith}
 use mathlib.Core.Path.{sym, ◌∙◌, ap}
 use lib.Seq.{slice}
-use borrow.Author.Rules.{rules}
 use Rattle.xml.specs.Read.{unescape}
 use Rattle.versions.specs.Hashes.{folded, mixed-small, node-run, node-element, node-timed}
 use Rattle.legality.proofs.hash.hash_node.Goals as goal

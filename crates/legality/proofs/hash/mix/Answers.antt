@@ -1,6 +1,5 @@
 -- `legality::hash::mix` meets its contract, which is what it computes. Assumes nothing.
 use mathlib.Core.Path.{refl}
-use borrow.Author.Rules.{rules}
 use Rattle.versions.specs.Hashes.{mixed}
 use Rattle.legality.proofs.hash.mix.Goals as goal
 

@@ -4,19 +4,13 @@ use native.Mathlib.Omega.{arith}
 use mathlib.Core.Path.{refl, sym, ◌∙◌, ap}
 use borrow.Author.Rules.{rules}
 use Rattle.xml.specs.Bytes.{bytes}
-use Rattle.xml.specs.SameTapes.{not-true, not-false}
-use Rattle.xml.specs.Tape.{next_at}
 use Rattle.xml.specs.TapeLaws.{tape-le}
 use Rattle.keys.specs.Version.{◌▸◌}
 use Rattle.keys.specs.TableLaws.{table-rules}
-use Rattle.keys.specs.Walks.{Walk, OfNodes, walk-front, walk-node, walk-next}
-use Rattle.timestamp.specs.Set.{set_of}
+use Rattle.keys.specs.Walks.{walk-front, walk-node, walk-next}
 use Rattle.timestamp.specs.Words.{zeros-none}
-use Rattle.timestamp.specs.Listed.{listed as times_of}
-use Rattle.versions.specs.Walk.{siblings_legal}
 use Rattle.versions.specs.LegalSteps.{element_legal, element-unlisted, element-named, element-front, element-lack, element-inside, element-once, last-labelled, walk-in}
-use Rattle.versions.specs.LegalGoing.{Legally, legally-start, legally-done, legally-own, the-sib, legally-element, legally-not, legally-more}
-use Prim.Native.Nat.{ℕ, ◌+◌, ◌*◌, ◌-◌, ◌<◌, ◌≤◌}
+use Rattle.versions.specs.LegalGoing.{legally-start, legally-done, legally-own, the-sib, legally-element, legally-not, legally-more}
 use Rattle.legality.proofs.legal.+element_legal_siblings_legal.Goals as goal
 
 pub element_legal-view_at-v-requires : goal.element_legal-view_at-v-requires

@@ -1,15 +1,11 @@
 -- `has_keys` meets its contract: what is asked of all key names is asked from the key name j on.
-use Prim.Native.Nat.{◌+◌, ◌-◌, ◌<◌, ◌≤◌}
+use Prim.Native.Nat.{◌+◌, ◌<◌}
 use native.Mathlib.Omega.{arith}
-use mathlib.Core.Path.{◌≡◌, sym, ◌∙◌}
+use mathlib.Core.Path.{sym, ◌∙◌}
 use lib.ListN.{length}
-use borrow.Author.Rules.{rules}
-use borrow.Author.Tests.{not-true, not-false}
 use Rattle.keys.specs.KeyList.{key_names_at}
-use Rattle.keys.specs.Walks.{OfNodes}
-use Rattle.keys.specs.Labelled.{has_keys}
 use Rattle.keys.specs.LabelLaws.{key-room, key-within}
-use Rattle.versions.specs.LegalKeys.{keys_from, keys-start, keys-lack, keys-more, keys-done}
+use Rattle.versions.specs.LegalKeys.{keys-start, keys-lack, keys-more, keys-done}
 use Rattle.legality.proofs.legal.has_keys.Goals as goal
 
 pub key_count-count-requires : goal.key_count-count-requires

@@ -2,7 +2,6 @@
 use native.Mathlib.Omega.{arith}
 use mathlib.Core.Path.{refl, sym, ◌∙◌}
 use borrow.Author.Rules.{rules}
-use Rattle.xml.specs.SameTapes.{not-true, not-false}
 use Rattle.xml.specs.TapeLaws.{front}
 use Rattle.versions.specs.Branches.{first}
 use Rattle.versions.specs.LegalTimes.{own_bare, own-crowd, own-timed}

@@ -4,8 +4,6 @@ use mathlib.Core.Path.{◌≡◌, refl, sym, ◌∙◌}
 use mathlib.Core.Bool.{Bool, true, false, not, ◌&&◌}
 use lib.Dec.{leb}
 use borrow.Author.Tests.{le-leb}
-use borrow.Author.Rules.{rules}
-use Rattle.xml.specs.SameTapes.{not-true, not-false}
 use Rattle.xml.specs.Truth.{by-test, and_both}
 use Rattle.timestamp.specs.Set.{up_to, same_set, subset}
 use Rattle.timestamp.specs.Tests.{subset-tells, subset-told}

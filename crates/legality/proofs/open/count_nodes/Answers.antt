@@ -1,12 +1,11 @@
 -- `archive::open::count_nodes` meets its contract. The loop's invariant: what is counted, with the tally of the nodes left, is that of all
 -- the nodes. Assumes nothing.
-use Prim.Native.Nat.{◌+◌, ◌-◌, ◌≤◌}
 use native.Mathlib.Omega.{arith}
 use mathlib.Core.Path.{◌≡◌}
 use Rattle.xml.specs.TapeLaws.{tape-le}
 use Rattle.xml.specs.SameTapes.{At, tape-at}
 use Rattle.versions.specs.Untimed.{timed_at}
-use Rattle.versions.specs.NodeCount.{weight, tally, weight-most, tally-more, tally-none, tally-nodes}
+use Rattle.versions.specs.NodeCount.{weight, weight-most, tally-more, tally-none, tally-nodes}
 use Rattle.legality.proofs.open.count_nodes.Goals as goal
 
 pub loop-i-init : goal.loop-i-init
@@ -38,13 +37,12 @@ loop-i-smaller c = omega arith
 
 pub loop-i-preserved : goal.loop-i-preserved
 loop-i-preserved c =
-    let one : c.weight-n.result ≡ weight (timed_at c.args.src.now c.args.tape.now c.loop-i.i) = rw c.view_at-v.ensures at c.weight-n.ensures in
-    (
-  omega (arith, c.loop-i.invariant.0),
-  omega arith,
-  omega (arith, c.loop-i.invariant.2, one, weight-most (timed_at c.args.src.now c.args.tape.now c.loop-i.i)),
-  omega (arith, one, c.loop-i.invariant.3, tally-more c.args.src.now c.args.tape.now c.loop-i.i c.args.hi c.loop-i-test.true),
-)
+    let one : c.weight-n.result ≡ weight (timed_at c.args.src.now c.args.tape.now c.loop-i.i) = rw c.view_at-v.ensures at c.weight-n.ensures in (
+      omega (arith, c.loop-i.invariant.0),
+      omega arith,
+      omega (arith, c.loop-i.invariant.2, one, weight-most (timed_at c.args.src.now c.args.tape.now c.loop-i.i)),
+      omega (arith, one, c.loop-i.invariant.3, tally-more c.args.src.now c.args.tape.now c.loop-i.i c.args.hi c.loop-i-test.true),
+    )
 
 pub returns : goal.returns
 returns c f t = omega (arith, c.loop-i.invariant.3, tally-none c.args.src.now c.args.tape.now c.loop-i.i c.args.hi (omega arith), tally-nodes t)

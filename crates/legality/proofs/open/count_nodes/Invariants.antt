@@ -1,12 +1,8 @@
 -- `archive::open::count_nodes` meets its contract. The loop's invariant: what is counted, with the tally of the nodes left, is that of all
 -- the nodes. Assumes nothing.
 use Prim.Native.Nat.{◌+◌, ◌-◌, ◌≤◌}
-use native.Mathlib.Omega.{arith}
 use mathlib.Core.Path.{◌≡◌}
-use Rattle.xml.specs.TapeLaws.{tape-le}
-use Rattle.xml.specs.SameTapes.{At, tape-at}
-use Rattle.versions.specs.Untimed.{timed_at}
-use Rattle.versions.specs.NodeCount.{weight, tally, weight-most, tally-more, tally-none, tally-nodes}
+use Rattle.versions.specs.NodeCount.{tally}
 use Rattle.legality.proofs.open.count_nodes.Given as goal
 
 abbrev pub invariant-loop-i : goal.invariant-loop-i

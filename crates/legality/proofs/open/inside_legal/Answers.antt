@@ -4,7 +4,6 @@ use mathlib.Core.Path.{◌≡◌, sym, ◌∙◌, ap}
 use mathlib.Core.List.{[]}
 use Rattle.xml.specs.Forest.{Forest}
 use Rattle.xml.specs.Tape.{Tape}
-use Rattle.xml.specs.SameTapes.{not-true, not-false}
 use Rattle.keys.specs.KeyList.{KeyList}
 use Rattle.keys.specs.PlaceLaws.{place-root}
 use Rattle.keys.specs.Table.{Table}
@@ -13,7 +12,6 @@ use Rattle.versions.specs.Walk.{siblings_legal}
 use Rattle.versions.specs.AddParts.{Holds}
 use Rattle.versions.specs.TimedLaws.{up-to-holds}
 use Rattle.versions.specs.LegalWhole.{inside-many, inside-unlawful, inside-rest, inside-walk}
-use borrow.Author.Rules.{rules}
 use Rattle.legality.proofs.open.inside_legal.Goals as goal
 
 pub returns-then-count_nodes-gt1024 : goal.returns-then-count_nodes-gt1024

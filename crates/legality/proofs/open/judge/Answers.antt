@@ -3,9 +3,7 @@ use mathlib.Core.Path.{◌≡◌}
 use mathlib.Core.Bool.{true}
 use Rattle.xml.specs.Bytes.{same}
 use Rattle.xml.specs.Forest.{write}
-use Rattle.xml.specs.SameTapes.{not-true, not-false}
 use Rattle.legality.specs.Opened.{judged-misspelled, judged-illegal, judged-legal}
-use borrow.Author.Rules.{rules}
 use Rattle.legality.proofs.open.judge.Goals as goal
 
 pub spelled-requires : goal.spelled-requires

@@ -4,12 +4,10 @@ use native.Mathlib.Omega.{arith}
 use mathlib.Core.Path.{◌≡◌, sym, ◌∙◌, ap}
 use Rattle.xml.specs.Forest.{Forest}
 use Rattle.xml.specs.Tape.{Tape}
-use Rattle.xml.specs.SameTapes.{not-true, not-false}
 use Rattle.keys.specs.KeyList.{KeyList}
 use Rattle.keys.specs.Table.{Table}
 use Rattle.versions.specs.Walk.{inside_of}
 use Rattle.versions.specs.LegalWhole.{outer_of, inside_legal, outer-of-most, outer-zero, outer-inside, inside-no, inside-yes}
-use borrow.Author.Rules.{rules}
 use Rattle.legality.proofs.open.legal_whole.Goals as goal
 
 pub returns-then-n-eq0 : goal.returns-then-n-eq0

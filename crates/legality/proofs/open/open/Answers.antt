@@ -2,7 +2,6 @@
 -- Assumes nothing.
 use native.Mathlib.Omega.{arith}
 use Rattle.legality.specs.Opened.{opened-read, opened-wrong, opened-full, broken-read}
-use borrow.Author.Rules.{rules}
 use Rattle.legality.proofs.open.open.Goals as goal
 
 pub judge-requires : goal.judge-requires

@@ -7,7 +7,6 @@ use Rattle.timestamp.specs.Set.{set_of}
 use Rattle.timestamp.specs.First.{first-low, first-high}
 use Rattle.versions.specs.Branches.{outcome-refused, outcome-accepted}
 use Rattle.versions.specs.OuterTimes.{outer-refused, outer-other, outer_same}
-use borrow.Author.Rules.{rules}
 use Rattle.legality.proofs.open.outer_last.Goals as goal
 
 pub returns-then-not-read : goal.returns-then-not-read

@@ -1,7 +1,6 @@
 -- `archive::open::weight` meets its contract: one return for each answer of `is_timed`. Assumes nothing.
 use mathlib.Core.Path.{sym, ◌∙◌, ap}
 use Rattle.versions.specs.NodeCount.{weight}
-use borrow.Author.Rules.{rules}
 use Rattle.legality.proofs.open.weight.Goals as goal
 
 pub returns-then-is_timed : goal.returns-then-is_timed

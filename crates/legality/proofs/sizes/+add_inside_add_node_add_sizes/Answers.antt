@@ -2,14 +2,13 @@
 -- (`Going`): the nodes passed are measured. Assumes nothing.
 use native.Mathlib.Omega.{arith}
 use mathlib.Core.Path.{◌≡◌, refl, sym, ◌∙◌}
-use borrow.Author.Rules.{rules}
 use Rattle.xml.specs.Forest.{Forest}
 use Rattle.xml.specs.Tape.{Tape, head_at, next_at}
 use Rattle.xml.specs.SignLaws.{plain-length}
 use Rattle.xml.specs.TapeLaws.{Front, OneRun, bytes_at, front, one-run, tape-le}
 use Rattle.legality.specs.Measured.{owned, Room, Measured, one-most, text-measured, run-measured, deep-measured, element-stopped, element-measured, twice-measured, timed-stopped, timed-measured}
 use Rattle.legality.specs.Going.{Going, going_start, going-room, going-fits, going_more, going-stopped, going_done, text-short, name-length, inner-text, inner_room, inner-own, inner-cells}
-use Prim.Native.Nat.{ℕ, ◌+◌, ◌*◌, ◌-◌, ◌%◌, ◌<◌, ◌≤◌}
+use Prim.Native.Nat.{◌+◌, ◌%◌}
 use Rattle.legality.proofs.sizes.+add_inside_add_node_add_sizes.Goals as goal
 
 pub add_inside-is_run-requires : goal.add_inside-is_run-requires

@@ -1,15 +1,9 @@
 -- `legality::sizes::add_inside`, `add_node` and `add_sizes` meet their contracts: the nodes inside one are fewer. The loop's invariant
 -- (`Going`): the nodes passed are measured. Assumes nothing.
-use native.Mathlib.Omega.{arith}
-use mathlib.Core.Path.{◌≡◌, refl, sym, ◌∙◌}
-use borrow.Author.Rules.{rules}
 use Rattle.xml.specs.Forest.{Forest}
-use Rattle.xml.specs.Tape.{Tape, head_at, next_at}
-use Rattle.xml.specs.SignLaws.{plain-length}
-use Rattle.xml.specs.TapeLaws.{Front, OneRun, bytes_at, front, one-run, tape-le}
-use Rattle.legality.specs.Measured.{owned, Room, Measured, one-most, text-measured, run-measured, deep-measured, element-stopped, element-measured, twice-measured, timed-stopped, timed-measured}
-use Rattle.legality.specs.Going.{Going, going_start, going-room, going-fits, going_more, going-stopped, going_done, text-short, name-length, inner-text, inner_room, inner-own, inner-cells}
-use Prim.Native.Nat.{ℕ, ◌+◌, ◌*◌, ◌-◌, ◌%◌, ◌<◌, ◌≤◌}
+use Rattle.xml.specs.Tape.{Tape, next_at}
+use Rattle.legality.specs.Going.{Going}
+use Prim.Native.Nat.{◌+◌, ◌*◌, ◌-◌, ◌≤◌}
 use Rattle.legality.proofs.sizes.+add_inside_add_node_add_sizes.Given as goal
 
 abbrev pub decreases-add_inside : goal.decreases-add_inside

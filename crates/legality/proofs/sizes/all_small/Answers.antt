@@ -1,7 +1,6 @@
 -- `legality::sizes::all_small` meets its contract. Assumes nothing.
 use native.Mathlib.Omega.{arith}
 use Rattle.legality.specs.Bounds.{bounded-small}
-use borrow.Author.Rules.{rules}
 use Rattle.legality.proofs.sizes.all_small.Goals as goal
 
 pub returns-then-bytes_in-le16384 : goal.returns-then-bytes_in-le16384

@@ -1,7 +1,6 @@
 -- `legality::sizes::measure` meets its contract, by the laws of SmallLaws.antt. Assumes nothing.
 use mathlib.Core.Path.{◌∙◌}
 use Rattle.legality.specs.SmallLaws.{inside-room, inside-stopped, inside-cells, inside-small}
-use borrow.Author.Rules.{rules}
 use Rattle.legality.proofs.sizes.measure.Goals as goal
 
 pub add_sizes-own-requires : goal.add_sizes-own-requires

@@ -3,7 +3,6 @@ use mathlib.Core.Path.{sym, ◌∙◌}
 use lib.Seq.{slice}
 use Rattle.xml.specs.Bytes.{bytes}
 use Rattle.legality.specs.Measured.{one_none, one-some}
-use borrow.Author.Rules.{rules}
 use Rattle.legality.proofs.sizes.one.Goals as goal
 
 pub returns-then-same_bytes : goal.returns-then-same_bytes

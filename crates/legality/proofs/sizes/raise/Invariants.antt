@@ -1,13 +1,9 @@
 -- `legality::sizes::raise` meets its contract. The loop's invariant (`Raising`): the versions of the runs that have been read have grown.
 -- Assumes nothing.
-use Prim.Native.Nat.{ℕ, ◌+◌, ◌-◌, ◌≤◌}
-use native.Mathlib.Omega.{arith}
-use mathlib.Core.Path.{◌≡◌, ap, ◌∙◌}
-use mathlib.Core.List.{[], ◌∷◌}
-use lib.ListN.{get_or}
-use lib.Seq.{slice, slice_empty}
+use Prim.Native.Nat.{◌-◌, ◌≤◌}
+use lib.Seq.{slice}
 use Rattle.timestamp.specs.Parse.{numbers_in}
-use Rattle.legality.specs.Raised.{Raising, raising-start, raising-byte, digit-asks, raising-digit, is-dash, raising-dash, comma-closes, raising-comma, run-asks, end-closes, raising-end}
+use Rattle.legality.specs.Raised.{Raising}
 use Rattle.legality.proofs.sizes.raise.Given as goal
 
 abbrev pub invariant-loop-at : goal.invariant-loop-at

@@ -1,10 +1,7 @@
 -- `legality::sizes::raise_run` meets its contract. The loop's invariant: the cells from `lo` up to `v` have grown. Assumes nothing.
-use borrow.Author.Rules.{rules}
-use Prim.Native.Nat.{◌-◌, ◌≤◌}
 use native.Mathlib.Omega.{arith}
 use mathlib.Core.Path.{◌≡◌}
-use Rattle.versions.specs.Sizes.{when_in}
-use Rattle.versions.specs.Grown.{Grown, in_run, run_none, run-next, run_more}
+use Rattle.versions.specs.Grown.{run_none, run-next, run_more}
 use Rattle.legality.proofs.sizes.raise_run.Goals as goal
 
 pub loop-v-init : goal.loop-v-init

@@ -1,6 +1,5 @@
 -- `legality::sizes::raise_span` meets its contract. Assumes nothing.
 use native.Mathlib.Omega.{arith}
-use borrow.Author.Rules.{rules}
 use borrow.Author.Tests.{eq-eqb, ne_eqb}
 use Rattle.versions.specs.Grown.{run_none, run_more}
 use Rattle.legality.proofs.sizes.raise_span.Goals as goal

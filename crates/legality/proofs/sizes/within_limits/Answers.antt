@@ -1,11 +1,7 @@
 -- `archive::sizes::within_limits` meets its contract. The loop's invariant: all versions are small just where those left are. Assumes
 -- nothing.
-use Prim.Native.Nat.{◌+◌, ◌-◌, ◌≤◌}
 use native.Mathlib.Omega.{arith}
-use mathlib.Core.Path.{◌≡◌, sym, ◌∙◌}
-use borrow.Author.Rules.{rules}
-use Rattle.xml.specs.Bytes.{all}
-use Rattle.timestamp.specs.Times.{up_from}
+use mathlib.Core.Path.{sym, ◌∙◌}
 use Rattle.versions.specs.Small.{is_small, small-nodes, small_bytes, small-both, each_more, each-not, each-done, each_start}
 use Rattle.legality.proofs.sizes.within_limits.Goals as goal
 

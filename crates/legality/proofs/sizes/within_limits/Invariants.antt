@@ -1,12 +1,10 @@
 -- `archive::sizes::within_limits` meets its contract. The loop's invariant: all versions are small just where those left are. Assumes
 -- nothing.
 use Prim.Native.Nat.{◌+◌, ◌-◌, ◌≤◌}
-use native.Mathlib.Omega.{arith}
-use mathlib.Core.Path.{◌≡◌, sym, ◌∙◌}
-use borrow.Author.Rules.{rules}
+use mathlib.Core.Path.{◌≡◌}
 use Rattle.xml.specs.Bytes.{all}
 use Rattle.timestamp.specs.Times.{up_from}
-use Rattle.versions.specs.Small.{is_small, small-nodes, small_bytes, small-both, each_more, each-not, each-done, each_start}
+use Rattle.versions.specs.Small.{is_small}
 use Rattle.legality.proofs.sizes.within_limits.Given as goal
 
 abbrev pub invariant-loop-i : goal.invariant-loop-i

@@ -3,7 +3,6 @@ use native.Mathlib.Omega.{arith}
 use mathlib.Core.Path.{◌∙◌, ap}
 use Rattle.timestamp.specs.Parse.{parsed}
 use Rattle.versions.specs.TimedLaws.{part_slice}
-use borrow.Author.Rules.{rules}
 use Rattle.legality.proofs.times.parse_at.Goals as goal
 
 pub returns : goal.returns

@@ -1,7 +1,6 @@
 -- `legality::times::take_at` meets its contract: the part is a slice. Assumes nothing.
 use native.Mathlib.Omega.{arith}
 use Rattle.versions.specs.TimedLaws.{part_slice}
-use borrow.Author.Rules.{rules}
 use Rattle.legality.proofs.times.take_at.Goals as goal
 
 pub returns : goal.returns

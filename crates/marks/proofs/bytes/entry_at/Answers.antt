@@ -1,8 +1,5 @@
-use Prim.Native.Nat.{◌-◌, ◌≤◌}
 use native.Mathlib.Omega.{arith}
-use mathlib.Core.Path.{◌≡◌, refl}
-use lib.ListN.{drop, replicate}
-use Rattle.marks.specs.Lent.{over}
+use mathlib.Core.Path.{refl}
 use Rattle.marks.specs.BytesLaws.{name-read, mark-read}
 use Rattle.marks.proofs.bytes.entry_at.Goals as goal
 

@@ -1,9 +1,7 @@
 use Prim.Native.Nat.{◌-◌, ◌≤◌}
-use native.Mathlib.Omega.{arith}
-use mathlib.Core.Path.{◌≡◌, refl}
+use mathlib.Core.Path.{◌≡◌}
 use lib.ListN.{drop, replicate}
 use Rattle.marks.specs.Lent.{over}
-use Rattle.marks.specs.BytesLaws.{name-read, mark-read}
 use Rattle.marks.proofs.bytes.entry_at.Given as goal
 
 abbrev pub invariant-loop-i : goal.invariant-loop-i

@@ -1,11 +1,7 @@
 use Prim.Native.Nat.{◌-◌, ◌≤◌}
-use native.Mathlib.Omega.{arith}
 use mathlib.Core.Path.{◌≡◌}
-use lib.ListN.{length, length-set}
-use lib.Seq.{paste, paste-zero}
-use borrow.Author.Rules.{rules}
+use lib.Seq.{paste}
 use Rattle.marks.specs.Marks.{entry_bytes}
-use Rattle.marks.specs.BytesLaws.{entry_length, put-size, put-name, put_rest}
 use Rattle.marks.proofs.bytes.put_entry.Given as goal
 
 abbrev pub invariant-loop-j : goal.invariant-loop-j

@@ -1,9 +1,7 @@
-use Prim.Native.Nat.{◌-◌, ◌≤◌}
 use native.Mathlib.Omega.{arith}
 use mathlib.Core.Path.{◌≡◌, refl, sym, ◌∙◌}
 use lib.ListN.{length}
-use Rattle.marks.specs.BytesLaws.{Put, put-start, put-length, put_next, put-end}
-use Rattle.marks.specs.JudgeLaws.{sized}
+use Rattle.marks.specs.BytesLaws.{put-start, put-length, put_next, put-end}
 use Rattle.marks.proofs.bytes.put_table.Goals as goal
 
 pub loop-i-init : goal.loop-i-init

@@ -1,9 +1,5 @@
 use Prim.Native.Nat.{◌-◌, ◌≤◌}
-use native.Mathlib.Omega.{arith}
-use mathlib.Core.Path.{◌≡◌, refl, sym, ◌∙◌}
-use lib.ListN.{length}
-use Rattle.marks.specs.BytesLaws.{Put, put-start, put-length, put_next, put-end}
-use Rattle.marks.specs.JudgeLaws.{sized}
+use Rattle.marks.specs.BytesLaws.{Put}
 use Rattle.marks.proofs.bytes.put_table.Given as goal
 
 abbrev pub invariant-loop-i : goal.invariant-loop-i

@@ -1,10 +1,7 @@
 use Prim.Native.Nat.{◌-◌, ◌≤◌}
-use native.Mathlib.Omega.{arith}
-use mathlib.Core.Path.{◌≡◌, refl}
-use lib.ListN.{length}
+use mathlib.Core.Path.{◌≡◌}
 use Rattle.marks.specs.Marks.{marks_from}
 use Rattle.marks.specs.Lent.{over, blanks}
-use Rattle.marks.specs.BytesLaws.{read_next, read-end, read_short}
 use Rattle.marks.proofs.bytes.table_from.Given as goal
 
 abbrev pub invariant-loop-i : goal.invariant-loop-i

@@ -2,7 +2,6 @@ use mathlib.Core.Path.{sym, ◌∙◌}
 use Rattle.marks.specs.Marks.{finding}
 use Rattle.marks.specs.Judging.{lent_of}
 use Rattle.marks.specs.ChangeLaws.{find-stopped, find-tried}
-use borrow.Author.Rules.{rules}
 use Rattle.marks.proofs.change.find_after.Goals as goal
 
 pub returns-then-before-ne0 : goal.returns-then-before-ne0

@@ -4,9 +4,7 @@ use lib.ListN.{length}
 use Rattle.marks.specs.Marks.{held}
 use Rattle.marks.specs.Judging.{lent_of}
 use Rattle.marks.specs.Changing.{found_by}
-use Rattle.marks.specs.JudgeLaws.{sized}
 use Rattle.marks.specs.ChangeLaws.{legal-is, illegal-is, finding-legal, finding-illegal}
-use borrow.Author.Rules.{rules}
 use Rattle.marks.proofs.change.find_in.Goals as goal
 
 pub find_among-requires : goal.find_among-requires

@@ -1,11 +1,7 @@
 use Prim.Native.Nat.{◌-◌, ◌≤◌}
-use native.Mathlib.Omega.{arith}
-use mathlib.Core.Path.{◌≡◌, refl, sym, ◌∙◌}
-use borrow.Author.Tests.{not-true, not-false}
+use mathlib.Core.Path.{◌≡◌}
 use lib.ListN.{length, drop}
 use Rattle.xml.specs.Bytes.{all, is_name_byte}
-use Rattle.marks.specs.JudgeLaws.{all-next, all-stop, all-over}
-use Rattle.marks.specs.ChangeLaws.{name-empty, name-too-long, name-bytes}
 use Rattle.marks.proofs.change.is_mark_name.Given as goal
 
 abbrev pub invariant-loop-i : goal.invariant-loop-i

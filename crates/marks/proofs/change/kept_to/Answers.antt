@@ -1,12 +1,8 @@
-use Prim.Native.Nat.{◌-◌, ◌≤◌, ◌<◌}
+use Prim.Native.Nat.{◌<◌}
 use native.Mathlib.Omega.{arith}
-use mathlib.Core.Path.{◌≡◌}
-use mathlib.Core.List.{List}
-use mathlib.Core.Logic.{⊎_elim}
-use lib.ListN.{length, take}
-use Rattle.marks.specs.Marks.{Named, entries, up_to}
+use lib.ListN.{length}
 use Rattle.marks.specs.Lent.{blanks}
-use Rattle.marks.specs.ChangeLaws.{Kept, kept-none, kept_next, kept-past, kept-all}
+use Rattle.marks.specs.ChangeLaws.{kept-none, kept_next, kept-past, kept-all}
 use Rattle.marks.proofs.change.kept_to.Goals.{then-m-i, else-m-i}
 use Rattle.marks.proofs.change.kept_to.Goals as goal
 
@@ -47,8 +43,8 @@ loop-j-preserved c = let a = c.args in
       λ ks e l.
           let z : at.j < length ks = omega (arith, l) in
           elim c.if-m-i.branch [
-            then-m-i w ↦ rw (w.held-is, w.count-is) (kept_next a.i ks at.j a.t.held e z at.held at.count (at.invariant.2 ks e l) w.if-m-i.true h)
-          | else-m-i w ↦ rw (w.held-is, w.count-is) (kept-past a.i ks at.j a.t.held e z at.held at.count (at.invariant.2 ks e l) w.if-m-i.false)
+            | then-m-i w ↦ rw (w.held-is, w.count-is) (kept_next a.i ks at.j a.t.held e z at.held at.count (at.invariant.2 ks e l) w.if-m-i.true h)
+            | else-m-i w ↦ rw (w.held-is, w.count-is) (kept-past a.i ks at.j a.t.held e z at.held at.count (at.invariant.2 ks e l) w.if-m-i.false)
           ],
     )
 

@@ -1,12 +1,9 @@
-use Prim.Native.Nat.{◌-◌, ◌≤◌, ◌<◌}
-use native.Mathlib.Omega.{arith}
+use Prim.Native.Nat.{◌-◌, ◌≤◌}
 use mathlib.Core.Path.{◌≡◌}
 use mathlib.Core.List.{List}
-use mathlib.Core.Logic.{⊎_elim}
 use lib.ListN.{length, take}
 use Rattle.marks.specs.Marks.{Named, entries, up_to}
-use Rattle.marks.specs.Lent.{blanks}
-use Rattle.marks.specs.ChangeLaws.{Kept, kept-none, kept_next, kept-past, kept-all}
+use Rattle.marks.specs.ChangeLaws.{Kept}
 use Rattle.marks.proofs.change.kept_to.Given as goal
 
 abbrev pub invariant-loop-j : goal.invariant-loop-j

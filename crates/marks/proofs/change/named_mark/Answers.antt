@@ -1,9 +1,8 @@
 use lib.ListN.{set}
-use Prim.Native.Nat.{◌-◌, ◌≤◌, ◌<◌}
+use Prim.Native.Nat.{◌<◌}
 use native.Mathlib.Omega.{arith}
-use mathlib.Core.Path.{◌≡◌, refl, ◌∙◌, ap}
+use mathlib.Core.Path.{refl, ◌∙◌, ap}
 use lib.ListN.{length, get_or, replicate}
-use Rattle.marks.specs.Lent.{over}
 use Rattle.marks.specs.LentLaws.{over-next}
 use Rattle.marks.specs.ChangeLaws.{entry-made}
 use Rattle.marks.proofs.change.named_mark.Goals as goal

@@ -1,11 +1,7 @@
-use lib.ListN.{set}
-use Prim.Native.Nat.{◌-◌, ◌≤◌, ◌<◌}
-use native.Mathlib.Omega.{arith}
-use mathlib.Core.Path.{◌≡◌, refl, ◌∙◌, ap}
-use lib.ListN.{length, get_or, replicate}
+use Prim.Native.Nat.{◌-◌, ◌≤◌}
+use mathlib.Core.Path.{◌≡◌}
+use lib.ListN.{length, replicate}
 use Rattle.marks.specs.Lent.{over}
-use Rattle.marks.specs.LentLaws.{over-next}
-use Rattle.marks.specs.ChangeLaws.{entry-made}
 use Rattle.marks.proofs.change.named_mark.Given as goal
 
 abbrev pub invariant-loop-i : goal.invariant-loop-i

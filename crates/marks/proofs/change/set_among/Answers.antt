@@ -3,13 +3,11 @@ use native.Mathlib.Omega.{arith}
 use mathlib.Core.Path.{◌≡◌, sym, ◌∙◌, ap}
 use mathlib.Core.Bool.{true}
 use mathlib.Core.List.{List, map}
-use borrow.Author.Tests.{not-true, not-false}
 use lib.ListN.{length, take}
 use Rattle.marks.specs.Marks.{Named, is_mark_name, entries, name_of}
 use Rattle.marks.specs.Judging.{place_in}
 use Rattle.marks.specs.Changing.{mark_named, changed_by}
 use Rattle.marks.specs.ChangeLaws.{name-fits, place-among, set-unnamed, set-held, set_full, set-zero, set-later, set-done, set-put}
-use borrow.Author.Rules.{rules}
 use Rattle.marks.proofs.change.set_among.Goals as goal
 
 pub returns-then-not-is_mark_name : goal.returns-then-not-is_mark_name

@@ -4,9 +4,7 @@ use lib.ListN.{length}
 use Rattle.marks.specs.Marks.{held}
 use Rattle.marks.specs.Judging.{lent_of}
 use Rattle.marks.specs.Changing.{changed_by}
-use Rattle.marks.specs.JudgeLaws.{sized}
 use Rattle.marks.specs.ChangeLaws.{legal-is, illegal-is, setting-legal, setting-illegal}
-use borrow.Author.Rules.{rules}
 use Rattle.marks.proofs.change.set_in.Goals as goal
 
 pub set_among-requires : goal.set_among-requires

@@ -1,11 +1,8 @@
 use Prim.Native.Nat.{◌-◌, ◌+◌, ◌*◌, ◌≤◌, ◌<◌}
-use native.Mathlib.Omega.{arith}
-use mathlib.Core.Path.{◌≡◌, sym, ◌∙◌}
 use mathlib.Core.List.{map}
-use borrow.Author.Rules.{rules}
-use lib.ListN.{length, take}
+use lib.ListN.{take}
 use Rattle.marks.specs.Marks.{name_of}
-use Rattle.marks.specs.JudgeLaws.{sized, names-length, Compared, compared-start, compared-row, compared-next, compared-twice, compared-all, same_at}
+use Rattle.marks.specs.JudgeLaws.{Compared}
 use Rattle.marks.proofs.judge.are_distinct.Given as goal
 
 abbrev pub invariant-loop-i : goal.invariant-loop-i

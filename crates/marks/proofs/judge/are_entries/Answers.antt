@@ -1,13 +1,9 @@
-use borrow.Author.Rules.{rules}
-use Prim.Native.Nat.{◌-◌, ◌≤◌}
 use native.Mathlib.Omega.{arith}
 use mathlib.Core.Path.{◌≡◌, refl, sym, ◌∙◌}
-use borrow.Author.Tests.{not-true, not-false}
-use lib.ListN.{length, take, drop}
-use Rattle.xml.specs.Bytes.{all}
+use lib.ListN.{length}
 use Rattle.marks.specs.Judging.{is_entry}
 use Rattle.marks.specs.Lent.{past}
-use Rattle.marks.specs.JudgeLaws.{sized, first_next, first-stop, first-all}
+use Rattle.marks.specs.JudgeLaws.{first_next, first-stop, first-all}
 use Rattle.marks.proofs.judge.are_entries.Goals as goal
 
 pub loop-i-init : goal.loop-i-init

@@ -1,13 +1,8 @@
-use borrow.Author.Rules.{rules}
 use Prim.Native.Nat.{◌-◌, ◌≤◌}
-use native.Mathlib.Omega.{arith}
-use mathlib.Core.Path.{◌≡◌, refl, sym, ◌∙◌}
-use borrow.Author.Tests.{not-true, not-false}
-use lib.ListN.{length, take, drop}
+use mathlib.Core.Path.{◌≡◌}
+use lib.ListN.{take, drop}
 use Rattle.xml.specs.Bytes.{all}
 use Rattle.marks.specs.Judging.{is_entry}
-use Rattle.marks.specs.Lent.{past}
-use Rattle.marks.specs.JudgeLaws.{sized, first_next, first-stop, first-all}
 use Rattle.marks.proofs.judge.are_entries.Given as goal
 
 abbrev pub invariant-loop-i : goal.invariant-loop-i

@@ -1,13 +1,9 @@
-use borrow.Author.Rules.{rules}
-use Prim.Native.Nat.{◌-◌, ◌≤◌}
 use native.Mathlib.Omega.{arith}
 use mathlib.Core.Path.{◌≡◌, refl, sym, ◌∙◌}
-use borrow.Author.Tests.{not-true, not-false}
-use lib.ListN.{length, drop}
-use Rattle.xml.specs.Bytes.{all}
+use lib.ListN.{length}
 use Rattle.marks.specs.Marks.{same_mark, unused}
 use Rattle.marks.specs.Lent.{past}
-use Rattle.marks.specs.JudgeLaws.{sized, all-next, all-stop, all-over}
+use Rattle.marks.specs.JudgeLaws.{all-next, all-stop, all-over}
 use Rattle.marks.proofs.judge.are_unused.Goals as goal
 
 pub loop-i-init : goal.loop-i-init

@@ -1,13 +1,8 @@
-use borrow.Author.Rules.{rules}
 use Prim.Native.Nat.{◌-◌, ◌≤◌}
-use native.Mathlib.Omega.{arith}
-use mathlib.Core.Path.{◌≡◌, refl, sym, ◌∙◌}
-use borrow.Author.Tests.{not-true, not-false}
-use lib.ListN.{length, drop}
+use mathlib.Core.Path.{◌≡◌}
+use lib.ListN.{drop}
 use Rattle.xml.specs.Bytes.{all}
 use Rattle.marks.specs.Marks.{same_mark, unused}
-use Rattle.marks.specs.Lent.{past}
-use Rattle.marks.specs.JudgeLaws.{sized, all-next, all-stop, all-over}
 use Rattle.marks.proofs.judge.are_unused.Given as goal
 
 abbrev pub invariant-loop-i : goal.invariant-loop-i

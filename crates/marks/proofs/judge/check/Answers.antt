@@ -10,7 +10,6 @@ use Rattle.marks.specs.declared.Mark.{Mark}
 use Rattle.marks.specs.declared.judge.Judged.TheVariants.{Marks, Illegal}
 use Rattle.marks.specs.Marks.{is_table, held, marks_in, number}
 use Rattle.marks.specs.Judging.{judged, pick_judged}
-use borrow.Author.Rules.{rules}
 use Rattle.marks.proofs.judge.check.Goals as goal
 
 legal : (n : ℕ) (ms : List Mark) (u : ℕ) → Marks u ≡ judged n ms → 0 ≡ number (marks_in n ms)

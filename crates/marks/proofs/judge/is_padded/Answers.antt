@@ -1,10 +1,7 @@
-use borrow.Author.Tests.{not-true, not-false}
-use Prim.Native.Nat.{◌-◌, ◌≤◌}
 use native.Mathlib.Omega.{arith}
 use mathlib.Core.Path.{◌≡◌, sym, ◌∙◌}
 use borrow.Author.Rules.{rules}
-use lib.ListN.{length, drop}
-use Rattle.marks.specs.Judging.{padded}
+use lib.ListN.{length}
 use Rattle.marks.specs.JudgeLaws.{padded-next, padded-stop, padded-start, padded-over}
 use Rattle.marks.proofs.judge.is_padded.Goals as goal
 

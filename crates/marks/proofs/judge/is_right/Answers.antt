@@ -1,6 +1,5 @@
 use borrow.Author.Tests.{lt-ltb, le-ltb}
 use mathlib.Core.Path.{refl}
-use borrow.Author.Rules.{rules}
 use Rattle.marks.proofs.judge.is_right.Goals as goal
 
 pub returns-then-j-k : goal.returns-then-j-k

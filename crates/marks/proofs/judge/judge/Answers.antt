@@ -1,9 +1,7 @@
 use mathlib.Core.Path.{◌≡◌, refl, sym, ◌∙◌}
 use mathlib.Core.Bool.{true, false}
-use borrow.Author.Tests.{not-true, not-false}
 use lib.ListN.{length}
-use Rattle.marks.specs.JudgeLaws.{sized, judged-small, judged-by}
-use borrow.Author.Rules.{rules}
+use Rattle.marks.specs.JudgeLaws.{judged-small, judged-by}
 use Rattle.marks.proofs.judge.judge.Goals as goal
 
 pub returns-then-size-ne32 : goal.returns-then-size-ne32

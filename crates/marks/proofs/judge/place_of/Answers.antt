@@ -1,13 +1,9 @@
-use borrow.Author.Rules.{rules}
-use Prim.Native.Nat.{◌-◌, ◌+◌, ◌≤◌}
 use native.Mathlib.Omega.{arith}
 use native.Mathlib.Nat.{zero-add}
 use mathlib.Core.Path.{◌≡◌, refl, sym, ◌∙◌}
-use mathlib.Core.List.{map}
-use lib.ListN.{length, take, drop}
+use lib.ListN.{length}
 use Rattle.marks.specs.Marks.{name_of}
-use Rattle.marks.specs.Judging.{place_in}
-use Rattle.marks.specs.JudgeLaws.{sized, place_found, place-on, place_none}
+use Rattle.marks.specs.JudgeLaws.{place_found, place-on, place_none}
 use Rattle.marks.proofs.judge.place_of.Goals as goal
 
 pub loop-i-init : goal.loop-i-init

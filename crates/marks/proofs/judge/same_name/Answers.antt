@@ -1,10 +1,8 @@
 use Prim.Native.Nat.{◌<◌}
-use Prim.Native.Nat.{◌-◌, ◌≤◌}
+use Prim.Native.Nat.{◌≤◌}
 use native.Mathlib.Omega.{arith}
-use mathlib.Core.Path.{◌≡◌, refl, sym, ◌∙◌}
-use borrow.Author.Rules.{rules}
-use lib.ListN.{length, drop}
-use Rattle.xml.specs.Bytes.{same}
+use mathlib.Core.Path.{refl, sym, ◌∙◌}
+use lib.ListN.{length}
 use Rattle.xml.specs.CompareLaws.{same-lengths}
 use Rattle.marks.specs.Marks.{name_of}
 use Rattle.marks.specs.JudgeLaws.{same_next, same_stop, same_over, name-byte}

@@ -1,10 +1,8 @@
 use mathlib.Core.Path.{◌≡◌, sym, ◌∙◌}
-use Prim.Native.Nat.{◌-◌, ◌+◌, ◌≤◌}
 use native.Mathlib.Omega.{arith}
 use native.Mathlib.Nat.{zero-add}
-use lib.ListN.{length, drop}
-use Rattle.marks.specs.Judging.{used_in}
-use Rattle.marks.specs.JudgeLaws.{sized, used-here, used-next, used_over}
+use lib.ListN.{length}
+use Rattle.marks.specs.JudgeLaws.{used-here, used-next, used_over}
 use Rattle.marks.proofs.judge.used.Goals as goal
 
 pub loop-i-init : goal.loop-i-init

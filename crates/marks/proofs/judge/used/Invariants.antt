@@ -1,10 +1,7 @@
-use mathlib.Core.Path.{◌≡◌, sym, ◌∙◌}
+use mathlib.Core.Path.{◌≡◌}
 use Prim.Native.Nat.{◌-◌, ◌+◌, ◌≤◌}
-use native.Mathlib.Omega.{arith}
-use native.Mathlib.Nat.{zero-add}
-use lib.ListN.{length, drop}
+use lib.ListN.{drop}
 use Rattle.marks.specs.Judging.{used_in}
-use Rattle.marks.specs.JudgeLaws.{sized, used-here, used-next, used_over}
 use Rattle.marks.proofs.judge.used.Given as goal
 
 abbrev pub invariant-loop-i : goal.invariant-loop-i

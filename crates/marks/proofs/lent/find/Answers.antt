@@ -1,5 +1,5 @@
 -- `marks::lent::find` meets its contract: what is found in the table by value is what is found in the lent one.
-use Rattle.std.proofs.Common.{◌≡◌, ◌∙◌, ap}
+use Rattle.std.proofs.Common.{◌∙◌, ap}
 use Rattle.marks.specs.Changing.{found_after}
 use Rattle.marks.specs.AfterLaws.{find-after}
 use Rattle.marks.proofs.lent.find.Goals as goal

@@ -1,9 +1,7 @@
 -- `timestamp::Timestamp::complement` meets its contract. The loop's invariant: the words before k are filled (`Filled`).
-use Prim.Native.Nat.{◌-◌, ◌≤◌}
 use native.Mathlib.Omega.{arith}
 use mathlib.Core.Path.{refl}
-use borrow.Author.Rules.{rules}
-use Rattle.timestamp.specs.Words.{Filled, filled_more, outside_set, not_at}
+use Rattle.timestamp.specs.Words.{filled_more, outside_set}
 use Rattle.timestamp.proofs.Timestamp.complement.Goals as goal
 
 pub loop-k-init : goal.loop-k-init

@@ -1,9 +1,6 @@
 -- `timestamp::Timestamp::complement` meets its contract. The loop's invariant: the words before k are filled (`Filled`).
 use Prim.Native.Nat.{◌-◌, ◌≤◌}
-use native.Mathlib.Omega.{arith}
-use mathlib.Core.Path.{refl}
-use borrow.Author.Rules.{rules}
-use Rattle.timestamp.specs.Words.{Filled, filled_more, outside_set, not_at}
+use Rattle.timestamp.specs.Words.{Filled, not_at}
 use Rattle.timestamp.proofs.Timestamp.complement.Given as goal
 
 abbrev pub invariant-loop-k : goal.invariant-loop-k

@@ -2,7 +2,6 @@
 use Prim.Native.Nat.{ℕ}
 use mathlib.Core.Path.{ap, ◌∙◌}
 use lib.Dec.{eqb}
-use borrow.Author.Rules.{rules}
 use Rattle.timestamp.specs.First.{none_first}
 use Rattle.timestamp.proofs.Timestamp.is_empty.Goals as goal
 

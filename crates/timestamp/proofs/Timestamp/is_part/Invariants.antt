@@ -1,10 +1,7 @@
 -- `timestamp::Timestamp::is_part` meets its contract. The loop's invariant: `lack` and `more` are 0 where the words so far are (`Ored`).
 use Prim.Native.Nat.{◌-◌, ◌≤◌}
-use mathlib.Core.Path.{◌≡◌}
-use native.Mathlib.Omega.{arith}
-use borrow.Author.Rules.{rules}
 use Rattle.timestamp.specs.Set.{set_of, same_set, subset}
-use Rattle.timestamp.specs.Taken.{Ored, ored-start, lacked_of, differ_of, part-lack, part-more, part_none, part-told}
+use Rattle.timestamp.specs.Taken.{Ored, lacked_of, differ_of}
 use Rattle.timestamp.proofs.Timestamp.is_part.Given as goal
 
 abbrev pub invariant-loop-k : goal.invariant-loop-k

@@ -8,7 +8,7 @@ use borrow.Author.Rules.{rules}
 use Rattle.xml.specs.OverLaws.{length_at}
 use Rattle.timestamp.specs.Set.{set_of}
 use Rattle.timestamp.specs.First.{first-low}
-use Rattle.timestamp.specs.Written.{past-run, Written, written_start, written-end, written-more}
+use Rattle.timestamp.specs.Written.{past-run, written_start, written-end, written-more}
 use Rattle.timestamp.proofs.Timestamp.put_text.Goals as goal
 
 pub loop-lo-init : goal.loop-lo-init

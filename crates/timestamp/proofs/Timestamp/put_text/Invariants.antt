@@ -1,14 +1,8 @@
 -- `timestamp::Timestamp::put_text` meets its contract. The loop's invariant (`Written`): what is written, and then the
 -- text of the runs from `lo` on, is the set's text.
-use Prim.Native.Nat.{ℕ, ◌-◌, ◌≤◌, ◌<◌, min}
-use native.Mathlib.Omega.{arith}
-use mathlib.Core.Path.{ap, ◌∙◌}
-use lib.ListN.{length}
-use borrow.Author.Rules.{rules}
-use Rattle.xml.specs.OverLaws.{length_at}
+use Prim.Native.Nat.{◌-◌}
 use Rattle.timestamp.specs.Set.{set_of}
-use Rattle.timestamp.specs.First.{first-low}
-use Rattle.timestamp.specs.Written.{past-run, Written, written_start, written-end, written-more}
+use Rattle.timestamp.specs.Written.{Written}
 use Rattle.timestamp.proofs.Timestamp.put_text.Given as goal
 
 abbrev pub invariant-loop-lo : goal.invariant-loop-lo

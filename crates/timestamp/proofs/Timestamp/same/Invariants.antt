@@ -1,13 +1,7 @@
 -- `timestamp::Timestamp::same` meets its contract. The loop's invariant: the words before k speak for the answer true.
-use mir.Val.{Fits}
-use mir.Syntax.{w64}
-use borrow.Author.Rules.{rules}
 use Prim.Native.Nat.{ℕ, ◌-◌, ◌≤◌, ◌<◌}
-use mathlib.Core.Path.{◌≡◌, sym}
-use native.Mathlib.Omega.{arith}
+use mathlib.Core.Path.{◌≡◌}
 use lib.ListN.{get_or}
-use Rattle.timestamp.specs.Tests.{same-words, other-words}
-use borrow.Author.Count.{below_more}
 use Rattle.timestamp.proofs.Timestamp.same.Given as goal
 
 abbrev pub invariant-loop-k : goal.invariant-loop-k

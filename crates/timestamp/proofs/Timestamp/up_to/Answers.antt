@@ -3,7 +3,6 @@ use Prim.Native.Nat.{ℕ}
 use mathlib.Core.Path.{ap, ◌∙◌}
 use mathlib.Core.Bool.{Bool}
 use native.Mathlib.Omega.{arith}
-use borrow.Author.Rules.{rules}
 use Rattle.timestamp.specs.Set.{joined, between}
 use Rattle.timestamp.specs.Words.{zeros-none, between_none}
 use Rattle.timestamp.proofs.Timestamp.up_to.Goals as goal

@@ -1,6 +1,5 @@
 -- `timestamp::change::cut_at` meets its contract.
 use native.Mathlib.Omega.{arith}
-use borrow.Author.Rules.{rules}
 use Rattle.timestamp.specs.Place.{read-place}
 use Rattle.timestamp.specs.Narrow.{place_inside}
 use Rattle.timestamp.specs.Cut.{cut-none, cut-whole, cut-first, cut_inside, cut_low}

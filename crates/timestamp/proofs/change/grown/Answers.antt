@@ -1,6 +1,5 @@
 -- `timestamp::change::grown` meets its contract.
 use native.Mathlib.Omega.{arith}
-use borrow.Author.Rules.{rules}
 use Rattle.timestamp.specs.Change.{last-low, read-gap, read_one, read_more}
 use Rattle.timestamp.proofs.change.grown.Goals as goal
 

@@ -1,8 +1,7 @@
 -- `timestamp::change::last_start` meets its contract.
-use Prim.Native.Nat.{◌≤◌}
 use native.Mathlib.Omega.{arith}
 use lib.ListN.{length}
-use Rattle.timestamp.specs.Place.{Clear, clear-down}
+use Rattle.timestamp.specs.Place.{clear-down}
 use Rattle.timestamp.proofs.change.last_start.Goals as goal
 
 pub loop-at-init : goal.loop-at-init

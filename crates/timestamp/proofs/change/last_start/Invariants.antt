@@ -1,8 +1,7 @@
 -- `timestamp::change::last_start` meets its contract.
 use Prim.Native.Nat.{◌≤◌}
-use native.Mathlib.Omega.{arith}
 use lib.ListN.{length}
-use Rattle.timestamp.specs.Place.{Clear, clear-down}
+use Rattle.timestamp.specs.Place.{Clear}
 use Rattle.timestamp.proofs.change.last_start.Given as goal
 
 abbrev pub invariant-loop-at : goal.invariant-loop-at

@@ -1,7 +1,6 @@
 -- `timestamp::change::narrow` meets its contract.
-use Prim.Native.Nat.{◌-◌}
 use native.Mathlib.Omega.{arith}
-use Rattle.timestamp.specs.Narrow.{Bracket, bracket-all, bracket-in, bracket-end}
+use Rattle.timestamp.specs.Narrow.{bracket-all, bracket-in, bracket-end}
 use Rattle.timestamp.proofs.change.narrow.Goals as goal
 
 pub loop-lo-init : goal.loop-lo-init

@@ -1,7 +1,6 @@
 -- `timestamp::change::narrow` meets its contract.
 use Prim.Native.Nat.{◌-◌}
-use native.Mathlib.Omega.{arith}
-use Rattle.timestamp.specs.Narrow.{Bracket, bracket-all, bracket-in, bracket-end}
+use Rattle.timestamp.specs.Narrow.{Bracket}
 use Rattle.timestamp.proofs.change.narrow.Given as goal
 
 abbrev pub invariant-loop-lo : goal.invariant-loop-lo

@@ -1,9 +1,8 @@
 -- `timestamp::change::next_start` meets its contract.
-use Prim.Native.Nat.{◌+◌, ◌-◌, ◌≤◌}
+use Prim.Native.Nat.{◌+◌, ◌-◌}
 use mathlib.Core.Path.{◌≡◌}
 use native.Mathlib.Omega.{arith}
-use lib.ListN.{length}
-use Rattle.timestamp.specs.Place.{Clear, clear_up}
+use Rattle.timestamp.specs.Place.{clear_up}
 use Rattle.timestamp.proofs.change.next_start.Goals as goal
 
 pub loop-i-init : goal.loop-i-init

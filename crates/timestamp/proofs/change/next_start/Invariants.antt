@@ -1,9 +1,7 @@
 -- `timestamp::change::next_start` meets its contract.
-use Prim.Native.Nat.{◌+◌, ◌-◌, ◌≤◌}
-use mathlib.Core.Path.{◌≡◌}
-use native.Mathlib.Omega.{arith}
+use Prim.Native.Nat.{◌-◌, ◌≤◌}
 use lib.ListN.{length}
-use Rattle.timestamp.specs.Place.{Clear, clear_up}
+use Rattle.timestamp.specs.Place.{Clear}
 use Rattle.timestamp.proofs.change.next_start.Given as goal
 
 abbrev pub invariant-loop-i : goal.invariant-loop-i

@@ -1,14 +1,10 @@
 -- `timestamp::text::belongs` meets its contract. The outer loop's invariant: the pass over the rest of the text, from a
 -- fresh run, gives the answer. The inner loop's: with what is read of the run, the pass from here is the one from the run's first byte on.
-use Prim.Native.Nat.{◌+◌, ◌-◌, ◌<◌, ◌≤◌}
-use native.Mathlib.Omega.{arith}
-use mathlib.Core.Path.{◌≡◌, refl, sym, ap, ◌∙◌}
-use mathlib.Core.Bool.{Bool, ◌||◌}
+use Prim.Native.Nat.{◌-◌, ◌≤◌}
+use mathlib.Core.Path.{◌≡◌}
 use lib.ListN.{length, get_or, drop}
-use borrow.Author.Rules.{rules}
 use Rattle.timestamp.specs.Times.{belongs}
-use Rattle.timestamp.specs.declared.text.Span.{Span}
-use Rattle.timestamp.specs.Belongs.{comma-less, fresh, rests, stepped, rests-step, rests-end, rests-comma, rests-hit, rests-is}
+use Rattle.timestamp.specs.Belongs.{fresh, rests}
 use Rattle.timestamp.proofs.text.belongs.Given as goal
 
 abbrev pub invariant-loop-b : goal.invariant-loop-b

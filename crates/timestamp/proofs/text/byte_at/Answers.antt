@@ -1,7 +1,6 @@
 -- `timestamp::text::byte_at` meets its contract.
 use native.Mathlib.Omega.{arith}
 use mathlib.Core.Path.{sym}
-use borrow.Author.Rules.{rules}
 use lib.ListN.{get_or-eq_default}
 use Rattle.timestamp.specs.Belongs.{inside-default}
 use Rattle.timestamp.proofs.text.byte_at.Goals as goal

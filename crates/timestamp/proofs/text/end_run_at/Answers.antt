@@ -3,7 +3,6 @@ use Prim.Native.Nat.{◌<◌}
 use mathlib.Core.Path.{◌≡◌, sym, ◌∙◌}
 use native.Mathlib.Omega.{arith}
 use lib.ListN.{length, get_or}
-use borrow.Author.Rules.{rules}
 use Rattle.timestamp.specs.RunAt.{none-past, run_alone, dash-inside, none-up, run-both}
 use Rattle.timestamp.proofs.text.end_run_at.Goals as goal
 

@@ -2,7 +2,6 @@
 use Prim.Native.Nat.{◌+◌}
 use mathlib.Core.Path.{refl, sym, ◌∙◌}
 use native.Mathlib.Omega.{arith}
-use borrow.Author.Rules.{rules}
 use Rattle.timestamp.specs.Numbers.{stays, ended-not, ended-none, reads-one, reads_two, reads_three, three-long}
 use Rattle.timestamp.proofs.text.long_at.Goals as goal
 

@@ -1,6 +1,5 @@
 -- `timestamp::text::one_digit` meets its contract.
 use native.Mathlib.Omega.{arith}
-use borrow.Author.Rules.{rules}
 use Rattle.timestamp.specs.Numbers.{low}
 use Rattle.timestamp.proofs.text.one_digit.Goals as goal
 

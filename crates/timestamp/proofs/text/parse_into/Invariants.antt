@@ -1,13 +1,10 @@
 -- `timestamp::text::parse_into` meets its contract. The loop's invariant: the state of the words and the bound, run over
 -- the rest of the text, ends as it does over all of it.
-use Prim.Native.Nat.{ℕ, ◌-◌, ◌≤◌, ◌<◌}
-use native.Mathlib.Omega.{arith}
-use mathlib.Core.Path.{◌≡◌, ap}
-use mathlib.Core.Bool.{Bool}
+use Prim.Native.Nat.{◌-◌, ◌≤◌}
+use mathlib.Core.Path.{◌≡◌}
 use lib.ListN.{length, drop}
 use Rattle.timestamp.specs.Set.{set_of, empty_set}
 use Rattle.timestamp.specs.Reading.{st, steps, close_in}
-use Rattle.timestamp.specs.RunAt.{run_none, run_fits, run-last, run-other, run-comma}
 use Rattle.timestamp.proofs.text.parse_into.Given as goal
 
 abbrev pub invariant-loop-run : goal.invariant-loop-run

@@ -3,7 +3,6 @@ use Prim.Native.Nat.{ℕ, ◌+◌, ◌≤◌}
 use mathlib.Core.Path.{◌≡◌, sym, ◌∙◌}
 use native.Mathlib.Omega.{arith}
 use lib.ListN.{length, get_or}
-use borrow.Author.Rules.{rules}
 use Rattle.timestamp.specs.Belongs.{inside-default}
 use Rattle.timestamp.specs.Numbers.{NumberAt, number-near}
 use Rattle.timestamp.specs.RunAt.{none-past, run_alone, none-up, run-both}

@@ -1,10 +1,7 @@
 -- `timestamp::text::take_text` meets its contract. The loop's invariant (`TakingText`): the runs before `at` are taken out of the words.
-use Prim.Native.Nat.{◌-◌, ◌≤◌, ◌<◌}
-use native.Mathlib.Omega.{arith}
+use Prim.Native.Nat.{◌-◌}
 use lib.ListN.{length}
-use borrow.Author.Rules.{rules}
-use Rattle.xml.specs.SameTapes.{not-true, not-false}
-use Rattle.timestamp.specs.TakenText.{TakingText, text-start, text-none, text-fits, text-lacks, text-last, text-other, text-more}
+use Rattle.timestamp.specs.TakenText.{TakingText}
 use Rattle.timestamp.proofs.text.take_text.Given as goal
 
 abbrev pub invariant-loop-run : goal.invariant-loop-run

@@ -1,6 +1,5 @@
 -- `timestamp::text::two_digits` meets its contract.
 use native.Mathlib.Omega.{arith}
-use borrow.Author.Rules.{rules}
 use Rattle.timestamp.specs.TimesLaws.{digit_low}
 use Rattle.timestamp.specs.Numbers.{low}
 use Rattle.timestamp.proofs.text.two_digits.Goals as goal

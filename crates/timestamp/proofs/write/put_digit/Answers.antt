@@ -1,5 +1,4 @@
 -- `timestamp::write::put_digit` meets its contract.
-use borrow.Author.Rules.{rules}
 use Rattle.timestamp.proofs.write.put_digit.Goals as goal
 
 pub returns : goal.returns

@@ -1,5 +1,4 @@
 -- `timestamp::write::put_long_part` meets its contract: the eight bytes are those of a comma and a run of numbers of three digits.
-use borrow.Author.Rules.{rules}
 use Rattle.timestamp.specs.Write.{part-three}
 use Rattle.timestamp.proofs.write.put_long_part.Goals as goal
 

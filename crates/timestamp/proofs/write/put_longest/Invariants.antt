@@ -1,13 +1,7 @@
 -- `timestamp::write::put_longest` meets its contract. The loop's invariant: the text over 1 to k is written, and k is n less a multiple of three.
 use Prim.Native.Nat.{◌-◌, ◌%◌, ◌≤◌}
-use native.Mathlib.Omega.{arith}
-use mathlib.Core.Path.{◌≡◌, ap, ◌∙◌, subst}
-use lib.ListN.{length}
-use Rattle.xml.specs.Over.{Wrote}
-use Rattle.xml.specs.OverLaws.{length_at}
-use Rattle.timestamp.specs.Times.{write_times}
-use Rattle.timestamp.specs.Longest.{longest}
-use Rattle.timestamp.specs.LongestLaws.{longest-length, times-short, LongestWritten, written-first, written_none, written-pair, written-whole}
+use mathlib.Core.Path.{◌≡◌}
+use Rattle.timestamp.specs.LongestLaws.{LongestWritten}
 use Rattle.timestamp.proofs.write.put_longest.Given as goal
 
 abbrev pub invariant-loop-k : goal.invariant-loop-k

@@ -1,6 +1,5 @@
 -- `timestamp::write::put_number` meets its contract.
 use native.Mathlib.Omega.{arith}
-use borrow.Author.Rules.{rules}
 use Rattle.xml.specs.OverLaws.{wrote_then}
 use Rattle.timestamp.specs.Write.{decimal-one, decimal-two, decimal-three}
 use Rattle.timestamp.proofs.write.put_number.Goals as goal

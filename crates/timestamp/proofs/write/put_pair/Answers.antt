@@ -1,7 +1,6 @@
 -- `timestamp::write::put_pair` meets its contract.
 use native.Mathlib.Omega.{arith}
 use borrow.Author.Tests.{lt-ltb}
-use borrow.Author.Rules.{rules}
 use Rattle.timestamp.proofs.write.put_pair.Goals as goal
 
 pub returns : goal.returns

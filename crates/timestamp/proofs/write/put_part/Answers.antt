@@ -1,5 +1,4 @@
 -- `timestamp::write::put_part` meets its contract.
-use borrow.Author.Rules.{rules}
 use Rattle.xml.specs.OverLaws.{wrote_then}
 use Rattle.timestamp.proofs.write.put_part.Goals as goal
 

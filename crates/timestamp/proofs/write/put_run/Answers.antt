@@ -1,6 +1,5 @@
 -- `timestamp::write::put_run` meets its contract.
 use native.Mathlib.Omega.{arith}
-use borrow.Author.Rules.{rules}
 use Rattle.xml.specs.OverLaws.{wrote_then}
 use Rattle.timestamp.specs.Write.{decimal-short, run-same, run_long}
 use Rattle.timestamp.proofs.write.put_run.Goals as goal

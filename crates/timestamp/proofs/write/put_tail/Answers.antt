@@ -1,7 +1,6 @@
 -- `timestamp::write::put_tail` meets its contract.
 use mathlib.Core.Path.{◌≡◌}
 use native.Mathlib.Omega.{arith}
-use borrow.Author.Rules.{rules}
 use Rattle.xml.specs.OverLaws.{wrote_then, wrote_none}
 use Rattle.timestamp.proofs.write.put_tail.Goals as goal
 

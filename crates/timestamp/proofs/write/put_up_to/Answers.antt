@@ -2,7 +2,6 @@
 use Prim.Native.Nat.{ℕ, suc, ◌-◌}
 use native.Mathlib.Omega.{arith}
 use mathlib.Core.Path.{◌≡◌}
-use borrow.Author.Rules.{rules}
 use Rattle.xml.specs.OverLaws.{wrote_none}
 use Rattle.timestamp.specs.Times.{always, write_run, write_times}
 use Rattle.timestamp.specs.TimesLaws.{write-none, write-always}

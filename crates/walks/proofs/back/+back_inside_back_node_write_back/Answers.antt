@@ -1,20 +1,18 @@
 -- `walks::back::write_back`, `back_inside` and `back_node` meet their contracts: siblings by a loop, depth by recursion; a node
 -- is written into the part of the output that it is lent. Each node has 163,840 bytes of room.
-use Prim.Native.Nat.{ℕ, ◌+◌, ◌*◌, ◌-◌, ◌%◌, ◌<◌, ◌≤◌}
+use Prim.Native.Nat.{◌%◌, ◌≤◌}
 use native.Mathlib.Omega.{arith}
 use mathlib.Core.Path.{◌≡◌, sym, ◌∙◌}
-use borrow.Author.Rules.{rules}
-use Rattle.xml.specs.Forest.{Forest}
 use Rattle.xml.specs.OverLaws.{lent_back}
-use Rattle.xml.specs.Tape.{head_at, next_at, start_in, end_in, Tape}
+use Rattle.xml.specs.Tape.{head_at, next_at, start_in, end_in}
 use Rattle.xml.specs.TapeLaws.{Front, OneRun, bytes_at, front, one-run, tape-le}
 use Rattle.timestamp.specs.Times.{Times}
 use Rattle.timestamp.specs.Set.{cut_at}
 use Rattle.timestamp.specs.Change.{Changes}
 use Rattle.versions.specs.Walk.{times_in}
-use Rattle.versions.specs.Rendered.{Going, node-part, open-room, going-none, going_more, going_done, going-length, text-renders, element-renders}
-use Rattle.versions.specs.Timely.{Timely, timely-first, timely-rest, timely-inside, timely-set}
-use Rattle.versions.specs.BackText.{back_text, back-pieces, back-length}
+use Rattle.versions.specs.Rendered.{node-part, open-room, going-none, going_more, going_done, going-length, text-renders, element-renders}
+use Rattle.versions.specs.Timely.{timely-first, timely-rest, timely-inside, timely-set}
+use Rattle.versions.specs.BackText.{back-pieces, back-length}
 use Rattle.walks.specs.Trimmed.{cut_text, Trimmed, trimmed-short, trimmed-room, cut-trimmed, cut-times, node-dropped, node-bare, node-wrapped}
 use Rattle.walks.proofs.back.+back_inside_back_node_write_back.Goals as goal
 

@@ -14,7 +14,6 @@ use Rattle.versions.specs.Rendered.{node-part}
 use Rattle.versions.specs.Timely.{Timely, timely-set, timely-whole}
 use Rattle.versions.specs.BackText.{back-length}
 use Rattle.walks.specs.Trimmed.{cut_text, Trimmed, trimmed-short, trimmed-room, cut-trimmed, cut-times, whole_back}
-use borrow.Author.Rules.{rules}
 use Rattle.walks.proofs.back.back.Goals as goal
 
 pub view_at-v-requires : goal.view_at-v-requires

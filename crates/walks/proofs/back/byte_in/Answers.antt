@@ -1,5 +1,4 @@
 -- `walks::back::byte_in` meets its contract.
-use borrow.Author.Rules.{rules}
 use Rattle.walks.specs.Trimmed.{part-byte, rest-byte}
 use Rattle.walks.proofs.back.byte_in.Goals as goal
 

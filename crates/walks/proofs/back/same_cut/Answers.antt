@@ -1,10 +1,7 @@
 -- `walks::back::same_cut` meets its contract: the texts are the same where what is left of them is.
-use Prim.Native.Nat.{◌+◌, ◌-◌, ◌≤◌}
+use Prim.Native.Nat.{◌+◌}
 use native.Mathlib.Omega.{arith}
 use mathlib.Core.Path.{◌≡◌, refl, sym, ◌∙◌}
-use lib.Seq.{slice}
-use borrow.Author.Rules.{rules}
-use Rattle.xml.specs.Bytes.{same}
 use Rattle.xml.specs.CompareLaws.{same-lengths, bytes-more, bytes-other, bytes-over}
 use Rattle.walks.specs.Trimmed.{cut_text, trimmed-short, cut-long, cut-room, cut-byte, same_start}
 use Rattle.walks.proofs.back.same_cut.Goals as goal

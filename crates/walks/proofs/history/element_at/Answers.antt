@@ -1,6 +1,5 @@
 -- `element_at` meets its contract.
 use mathlib.Core.Path.{sym}
-use borrow.Author.Rules.{rules}
 use Rattle.versions.specs.HistoryTape.{element-timed, element-bare}
 use Rattle.walks.proofs.history.element_at.Goals as goal
 

@@ -1,5 +1,4 @@
 -- `enter` meets its contract.
-use borrow.Author.Rules.{rules}
 use Rattle.walks.specs.HistoryParts.{entered-timed, entered-bare}
 use Rattle.walks.proofs.history.enter.Goals as goal
 

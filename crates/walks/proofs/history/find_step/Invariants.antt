@@ -1,11 +1,8 @@
 -- `find_step` meets its contract: the siblings left hold the one with the label, if there is one.
 use Prim.Native.Nat.{◌-◌}
-use native.Mathlib.Omega.{arith}
-use mathlib.Core.Path.{sym, ◌∙◌}
 use mathlib.Core.List.{[]}
 use lib.ListN.{get_or}
-use Rattle.xml.specs.TapeLaws.{Front, front}
-use Rattle.versions.specs.HistoryTape.{StepLeft, left-start, left-sibling, left-on, left_here, left-none}
+use Rattle.versions.specs.HistoryTape.{StepLeft}
 use Rattle.walks.specs.HistoryParts.{OfStep}
 use Rattle.walks.proofs.history.find_step.Given as goal
 

@@ -1,6 +1,5 @@
 -- `history` meets its contract: the text of the nearest `T` is copied.
 use native.Mathlib.Omega.{arith}
-use borrow.Author.Rules.{rules}
 use borrow.Author.Tests.{not-true, not-false}
 use Rattle.xml.specs.OverLaws.{wrote_none}
 use Rattle.walks.specs.HistoryParts.{AroundIs}

@@ -1,7 +1,6 @@
 -- `nearest` meets its contract: the rest of the address, in the element that the walk has come to, gives the history.
 use Prim.Native.Nat.{◌-◌}
-use native.Mathlib.Omega.{arith}
-use Rattle.walks.specs.HistoryWalk.{top, Way, way-start, way-sought, way-missing, way-held, way_on, way-done}
+use Rattle.walks.specs.HistoryWalk.{Way}
 use Rattle.walks.proofs.history.nearest.Given as goal
 
 abbrev pub invariant-loop-i : goal.invariant-loop-i

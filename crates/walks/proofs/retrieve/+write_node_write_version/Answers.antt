@@ -1,17 +1,15 @@
 -- `walks::retrieve::write_version` and `write_node` meet their contracts: siblings by a loop, depth by recursion; a node is written into the part
 -- of the output that it is lent. Each node has 163,840 bytes of room.
-use Prim.Native.Nat.{ℕ, ◌+◌, ◌*◌, ◌-◌, ◌%◌, ◌<◌, ◌≤◌}
+use Prim.Native.Nat.{◌%◌}
 use native.Mathlib.Omega.{arith}
 use mathlib.Core.Path.{◌≡◌, ap, sym, ◌∙◌}
-use borrow.Author.Rules.{rules}
-use Rattle.xml.specs.Forest.{Forest}
 use Rattle.xml.specs.OverLaws.{lent_back}
-use Rattle.xml.specs.Tape.{head_at, next_at, Tape}
+use Rattle.xml.specs.Tape.{head_at, next_at}
 use Rattle.xml.specs.TapeLaws.{Front, bytes_at, front}
 use Rattle.timestamp.specs.Times.{belongs}
-use Rattle.versions.specs.Timely.{Timely, timely-first, timely-rest, timely-inside}
-use Rattle.versions.specs.Rendered.{Going, node-part, open-room, going-none, going_more, going_done, going-length, text-renders, element-renders}
-use Rattle.versions.specs.VersionText.{version_text, version-pieces, version-length, stamp-in, stamp-out}
+use Rattle.versions.specs.Timely.{timely-first, timely-rest, timely-inside}
+use Rattle.versions.specs.Rendered.{node-part, open-room, going-none, going_more, going_done, going-length, text-renders, element-renders}
+use Rattle.versions.specs.VersionText.{version-pieces, version-length, stamp-in, stamp-out}
 use Rattle.walks.proofs.retrieve.+write_node_write_version.Goals as goal
 
 pub write_node-view_at-v-requires : goal.write_node-view_at-v-requires

@@ -1,17 +1,11 @@
 -- `walks::retrieve::write_version` and `write_node` meet their contracts: siblings by a loop, depth by recursion; a node is written into the part
 -- of the output that it is lent. Each node has 163,840 bytes of room.
-use Prim.Native.Nat.{ℕ, ◌+◌, ◌*◌, ◌-◌, ◌%◌, ◌<◌, ◌≤◌}
-use native.Mathlib.Omega.{arith}
-use mathlib.Core.Path.{◌≡◌, ap, sym, ◌∙◌}
-use borrow.Author.Rules.{rules}
+use Prim.Native.Nat.{◌+◌, ◌*◌, ◌-◌, ◌≤◌}
 use Rattle.xml.specs.Forest.{Forest}
-use Rattle.xml.specs.OverLaws.{lent_back}
-use Rattle.xml.specs.Tape.{head_at, next_at, Tape}
-use Rattle.xml.specs.TapeLaws.{Front, bytes_at, front}
-use Rattle.timestamp.specs.Times.{belongs}
-use Rattle.versions.specs.Timely.{Timely, timely-first, timely-rest, timely-inside}
-use Rattle.versions.specs.Rendered.{Going, node-part, open-room, going-none, going_more, going_done, going-length, text-renders, element-renders}
-use Rattle.versions.specs.VersionText.{version_text, version-pieces, version-length, stamp-in, stamp-out}
+use Rattle.xml.specs.Tape.{next_at, Tape}
+use Rattle.versions.specs.Timely.{Timely}
+use Rattle.versions.specs.Rendered.{Going}
+use Rattle.versions.specs.VersionText.{version_text}
 use Rattle.walks.proofs.retrieve.+write_node_write_version.Given as goal
 
 abbrev pub decreases-write_node : goal.decreases-write_node

@@ -7,7 +7,6 @@ use lib.Seq.{slice, length-slice}
 use Rattle.xml.specs.Bytes.{bytes}
 use Rattle.xml.specs.OverLaws.{wrote_then}
 use Rattle.xml.specs.TapeLaws.{opening}
-use borrow.Author.Rules.{rules}
 use Rattle.walks.proofs.timed.put_changed.Goals as goal
 
 pub put_part-tail-requires : goal.put_part-tail-requires

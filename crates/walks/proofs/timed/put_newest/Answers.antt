@@ -3,7 +3,6 @@ use Prim.Native.Nat.{◌+◌}
 use mathlib.Core.Path.{◌∙◌, ap}
 use Rattle.timestamp.specs.Set.{set_of, adding}
 use Rattle.versions.specs.TimedLaws.{wrote-newest}
-use borrow.Author.Rules.{rules}
 use Rattle.walks.proofs.timed.put_newest.Goals as goal
 
 pub returns : goal.returns

@@ -5,7 +5,6 @@ use Rattle.xml.specs.TapeLaws.{length-write}
 use Rattle.timestamp.specs.Set.{set_of}
 use Rattle.timestamp.specs.Listed.{text_of}
 use Rattle.versions.specs.TimedLaws.{wrote-timed}
-use borrow.Author.Rules.{rules}
 use Rattle.walks.proofs.timed.put_timed.Goals as goal
 
 pub put_word-requires : goal.put_word-requires

@@ -4,7 +4,6 @@ use Rattle.xml.specs.Bytes.{bytes}
 use Rattle.timestamp.specs.Set.{set_of}
 use Rattle.timestamp.specs.LongestLaws.{text-short}
 use Rattle.versions.specs.TimedLaws.{wrote-times}
-use borrow.Author.Rules.{rules}
 use Rattle.walks.proofs.timed.put_times.Goals as goal
 
 pub put_word-requires : goal.put_word-requires

@@ -1,16 +1,12 @@
 -- `xml::attributes::is_fresh` meets its contract. The invariant: none of the bytes before c can follow. Assumes nothing.
-use Prim.Native.Nat.{ℕ, ◌+◌, ◌-◌, ◌<◌, ◌≤◌}
+use Prim.Native.Nat.{◌+◌, ◌-◌}
 use native.Mathlib.Nat.{not-suc-le-zero}
 use native.Mathlib.Omega.{arith}
 use mathlib.Core.Path.{refl, sym, ◌∙◌}
-use mathlib.Core.List.{List}
-use borrow.Author.Rules.{rules}
 use lib.ListN.{take}
 use lib.Seq.{length-take-le}
-use Rattle.xml.specs.Bytes.{Bytes}
-use Rattle.xml.specs.NameCells.{NameCells}
 use Rattle.xml.specs.Fresh.{fresh-new}
-use Rattle.xml.specs.FreshNames.{begins-name, fresh-never, fresh-full, Tried, tried-hit, tried-none, tried-more, longer-fresh}
+use Rattle.xml.specs.FreshNames.{begins-name, fresh-never, fresh-full, tried-hit, tried-none, tried-more, longer-fresh}
 use Rattle.xml.proofs.attributes.+is_fresh.Goals as goal
 
 pub slice_bounds-name_len-end : goal.slice_bounds-name_len-end

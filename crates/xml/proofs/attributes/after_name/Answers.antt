@@ -2,8 +2,6 @@
 use Prim.Native.Nat.{◌+◌}
 use native.Mathlib.Omega.{arith}
 use mathlib.Core.Path.{sym, ◌∙◌}
-use borrow.Author.Rules.{rules}
-use borrow.Author.Tests.{not-true, not-false}
 use lib.ListN.{drop, length-drop}
 use Rattle.xml.specs.AttrPlaces.{new-unnamed, new-unquoted, new-stops, new-goes, name_in_lem, quote-here, value_in_lem}
 use Rattle.xml.specs.declared.Run.TheVariants.{Upto, Stop}

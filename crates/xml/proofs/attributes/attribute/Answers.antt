@@ -2,8 +2,6 @@
 use Prim.Native.Nat.{ℕ, ◌+◌}
 use native.Mathlib.Omega.{arith}
 use mathlib.Core.Path.{ap, sym, ◌∙◌}
-use borrow.Author.Rules.{rules}
-use borrow.Author.Tests.{not-true, not-false}
 use lib.ListN.{take, drop, get_or}
 use Rattle.xml.specs.Tags.{is_new}
 use Rattle.xml.specs.AttrPlaces.{attr_named, named_other, part_same, part-begins, name_in_lem}
@@ -23,12 +21,12 @@ is_new-requires c = (c.requires.0, c.requires.1, part-begins (drop (c.args.at + 
 
 pub first_wrong-requires : goal.first_wrong-requires
 first_wrong-requires c = let S = drop (c.args.at + 1) c.args.src.now in (
-      c.requires.0,
-      c.requires.1,
-      omega (arith, c.requires.2),
-      λ used h. ap (λ (i : ℕ). is_new used (take i S)) (sym c.name_len-m.ensures) ∙ ap (is_new used) (sym (part_same S (c.args.at + 1) c.name_len-m.result))
-          ∙ sym (c.is_new.ensures used h) ∙ c.if-not-is_new.true,
-    )
+  c.requires.0,
+  c.requires.1,
+  omega (arith, c.requires.2),
+  λ used h. ap (λ (i : ℕ). is_new used (take i S)) (sym c.name_len-m.ensures) ∙ ap (is_new used) (sym (part_same S (c.args.at + 1) c.name_len-m.result))
+      ∙ sym (c.is_new.ensures used h) ∙ c.if-not-is_new.true,
+)
 
 pub returns-then-not-is_new : goal.returns-then-not-is_new
 returns-then-not-is_new c = λ used h. c.first_wrong.ensures used h ∙ ap (λ (b : ℕ). attr_named used b (drop (c.args.at + 1) c.args.src.now)) (sym c.if-src-at-ne32.false)

@@ -1,11 +1,8 @@
 -- `xml::attributes::attributes` meets its contract. The invariant: the attributes from `at` go as far as those from j, and k names of
 -- those before it are noted (Noting). Assumes nothing.
 use Prim.Native.Nat.{◌-◌}
-use native.Mathlib.Omega.{arith}
-use mathlib.Core.Path.{sym, ◌∙◌}
-use borrow.Author.Rules.{rules}
 use lib.ListN.{length}
-use Rattle.xml.specs.AttrPlaces.{gone-end, gone-over, gone-off, off-fits, Noting, noting-start, noting-some, noting-room, noting-new, noting-fits, noting-on, noting-full}
+use Rattle.xml.specs.AttrPlaces.{Noting}
 use Rattle.xml.proofs.attributes.attributes.Given as goal
 
 abbrev pub invariant-loop-j : goal.invariant-loop-j

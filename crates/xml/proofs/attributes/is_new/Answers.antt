@@ -1,7 +1,6 @@
 -- `xml::attributes::is_new` meets its contract. Assumes nothing.
 use mathlib.Core.Path.{ap, sym, ◌∙◌}
 use mathlib.Core.Bool.{not}
-use borrow.Author.Rules.{rules}
 use Rattle.xml.specs.FreshNames.{new_none, new-test}
 use Rattle.xml.proofs.attributes.is_new.Goals as goal
 

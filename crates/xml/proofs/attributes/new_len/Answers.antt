@@ -1,13 +1,8 @@
 -- `xml::attributes::new_len` meets its contract. The invariant: n bytes begin a new name, and stand in the array. Assumes nothing.
-use Prim.Native.Nat.{◌+◌, ◌-◌, ◌≤◌}
 use native.Mathlib.Omega.{arith}
-use mathlib.Core.Path.{◌≡◌, refl, sym}
-use mathlib.Core.List.{List}
-use borrow.Author.Tests.{not-true, not-false}
-use lib.ListN.{length, length-set}
-use Rattle.xml.specs.Bytes.{Bytes}
-use Rattle.xml.specs.NameCells.{NameCells}
-use Rattle.xml.specs.FreshNames.{Counted, count-start, count-end, count-full, count-stop, count-more}
+use mathlib.Core.Path.{refl, sym}
+use lib.ListN.{length-set}
+use Rattle.xml.specs.FreshNames.{count-start, count-end, count-full, count-stop, count-more}
 use Rattle.xml.proofs.attributes.new_len.Goals as goal
 
 pub loop-n-init : goal.loop-n-init

@@ -1,13 +1,11 @@
 -- `xml::attributes::new_len` meets its contract. The invariant: n bytes begin a new name, and stand in the array. Assumes nothing.
 use Prim.Native.Nat.{◌+◌, ◌-◌, ◌≤◌}
-use native.Mathlib.Omega.{arith}
-use mathlib.Core.Path.{◌≡◌, refl, sym}
+use mathlib.Core.Path.{◌≡◌}
 use mathlib.Core.List.{List}
-use borrow.Author.Tests.{not-true, not-false}
-use lib.ListN.{length, length-set}
+use lib.ListN.{length}
 use Rattle.xml.specs.Bytes.{Bytes}
 use Rattle.xml.specs.NameCells.{NameCells}
-use Rattle.xml.specs.FreshNames.{Counted, count-start, count-end, count-full, count-stop, count-more}
+use Rattle.xml.specs.FreshNames.{Counted}
 use Rattle.xml.proofs.attributes.new_len.Given as goal
 
 abbrev pub invariant-loop-n : goal.invariant-loop-n

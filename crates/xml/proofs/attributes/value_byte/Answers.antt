@@ -7,8 +7,6 @@ use Rattle.xml.specs.ScanLaws.{found_len, entity-fits}
 use Rattle.xml.specs.Values.{value-over, value-hit, value-miss, value-kept, value-off}
 use Rattle.xml.specs.ValueBytes.{in-plain, in-less, in-other}
 use Rattle.xml.specs.declared.Found.{Found}
-use borrow.Author.Rules.{rules}
-use borrow.Author.Tests.{not-true, not-false}
 use Rattle.xml.proofs.attributes.value_byte.Goals as goal
 
 pub returns-then-b-q : goal.returns-then-b-q

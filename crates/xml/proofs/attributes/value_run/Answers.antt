@@ -1,10 +1,8 @@
 -- `xml::attributes::value_run` meets its contract. The invariant: the value from `at` is the value from j. Assumes nothing.
 use mathlib.Core.Path.{refl, sym, ◌∙◌}
-use Prim.Native.Nat.{◌-◌}
 use native.Mathlib.Omega.{arith}
 use borrow.Author.Rules.{rules}
-use lib.ListN.{length}
-use Rattle.xml.specs.ValueBytes.{Passed, pass-start, pass-over, pass-off, pass_on, pass-end, off-fits, on_fits}
+use Rattle.xml.specs.ValueBytes.{pass-start, pass-over, pass-off, pass_on, pass-end, off-fits, on_fits}
 use Rattle.xml.proofs.attributes.value_run.Goals as goal
 
 pub loop-j-init : goal.loop-j-init

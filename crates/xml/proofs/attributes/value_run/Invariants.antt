@@ -1,10 +1,7 @@
 -- `xml::attributes::value_run` meets its contract. The invariant: the value from `at` is the value from j. Assumes nothing.
-use mathlib.Core.Path.{refl, sym, ◌∙◌}
 use Prim.Native.Nat.{◌-◌}
-use native.Mathlib.Omega.{arith}
-use borrow.Author.Rules.{rules}
 use lib.ListN.{length}
-use Rattle.xml.specs.ValueBytes.{Passed, pass-start, pass-over, pass-off, pass_on, pass-end, off-fits, on_fits}
+use Rattle.xml.specs.ValueBytes.{Passed}
 use Rattle.xml.proofs.attributes.value_run.Given as goal
 
 abbrev pub invariant-loop-j : goal.invariant-loop-j

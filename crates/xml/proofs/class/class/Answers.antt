@@ -1,6 +1,5 @@
 -- `xml::class::class` meets its contract: the formula, test by test. Assumes nothing.
 use mathlib.Core.Path.{sym, ◌∙◌}
-use borrow.Author.Rules.{rules}
 use Rattle.xml.specs.ClassNumber.{number_is}
 use Rattle.xml.proofs.class.class.Goals as goal
 

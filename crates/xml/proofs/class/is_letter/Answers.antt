@@ -2,7 +2,6 @@
 use Prim.Native.Char.{code}
 use mathlib.Core.Path.{ap}
 use mathlib.Core.Bool.{Bool, ◌&&◌, ◌||◌}
-use borrow.Author.Rules.{rules}
 use lib.Dec.{leb}
 use Rattle.xml.specs.Bytes.{is_letter, within}
 use Rattle.xml.proofs.class.is_letter.Goals as goal

@@ -2,7 +2,6 @@
 use Prim.Native.Char.{code}
 use mathlib.Core.Path.{sym, ◌∙◌, ap₂}
 use mathlib.Core.Bool.{Bool, ◌||◌}
-use borrow.Author.Rules.{rules}
 use lib.Dec.{eqb}
 use Rattle.xml.specs.Bytes.{bytes, any, among, is_letter, is_digit}
 use Rattle.xml.specs.ByteTests.{start_is, name-is}

@@ -2,7 +2,6 @@
 use Prim.Native.Char.{code}
 use mathlib.Core.Path.{sym, ◌∙◌, ap}
 use mathlib.Core.Bool.{Bool, ◌||◌}
-use borrow.Author.Rules.{rules}
 use lib.Dec.{eqb}
 use Rattle.xml.specs.ByteTests.{start_is}
 use Rattle.xml.proofs.class.is_name_start.Goals as goal

@@ -1,7 +1,6 @@
 -- `xml::compare::alike_blocks` meets its contract. The invariant: it holds of the number reached. Assumes nothing.
-use Prim.Native.Nat.{◌-◌, ◌≤◌}
 use native.Mathlib.Omega.{arith}
-use Rattle.xml.specs.Alike.{Alike, alike-none, alike_then}
+use Rattle.xml.specs.Alike.{alike-none, alike_then}
 use Rattle.xml.proofs.compare.alike_blocks.Goals as goal
 
 pub loop-n-init : goal.loop-n-init

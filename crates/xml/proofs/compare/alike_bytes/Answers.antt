@@ -1,9 +1,7 @@
 -- `xml::compare::alike_bytes` meets its contract. The invariant: it holds of the number reached. Assumes nothing.
-use Prim.Native.Nat.{◌-◌, ◌≤◌}
 use native.Mathlib.Omega.{arith}
 use mathlib.Core.Path.{sym, ◌∙◌}
-use borrow.Author.Rules.{rules}
-use Rattle.xml.specs.Alike.{Alike, alike-none, alike-more}
+use Rattle.xml.specs.Alike.{alike-none, alike-more}
 use Rattle.xml.proofs.compare.alike_bytes.Goals as goal
 
 pub loop-n-init : goal.loop-n-init

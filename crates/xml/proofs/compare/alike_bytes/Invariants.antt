@@ -1,9 +1,6 @@
 -- `xml::compare::alike_bytes` meets its contract. The invariant: it holds of the number reached. Assumes nothing.
 use Prim.Native.Nat.{◌-◌, ◌≤◌}
-use native.Mathlib.Omega.{arith}
-use mathlib.Core.Path.{sym, ◌∙◌}
-use borrow.Author.Rules.{rules}
-use Rattle.xml.specs.Alike.{Alike, alike-none, alike-more}
+use Rattle.xml.specs.Alike.{Alike}
 use Rattle.xml.proofs.compare.alike_bytes.Given as goal
 
 abbrev pub invariant-loop-n : goal.invariant-loop-n

@@ -1,6 +1,5 @@
 -- `xml::compare::alike_len` meets its contract: the bytes after the blocks are alike too. Assumes nothing.
 use native.Mathlib.Omega.{arith}
-use borrow.Author.Rules.{rules}
 use Rattle.xml.specs.Alike.{alike_then, onward}
 use Rattle.xml.proofs.compare.alike_len.Goals as goal
 

@@ -4,7 +4,6 @@ use native.Mathlib.Omega.{arith}
 use borrow.Author.Tests.{eqb-false, not-true}
 use Rattle.xml.specs.Ends.{ends-other}
 use Rattle.xml.specs.Truth.{clash}
-use borrow.Author.Rules.{rules}
 use Rattle.xml.proofs.compare.ends_differ.Goals as goal
 
 pub returns-then-a1-e1 : goal.returns-then-a1-e1

@@ -1,10 +1,7 @@
 -- `xml::compare::has_unlike` meets its contract. The invariant: where there was no hit, the bytes passed are alike. Assumes nothing.
-use Prim.Native.Nat.{◌-◌, ◌≤◌}
 use native.Mathlib.Omega.{arith}
-use mathlib.Core.Path.{◌≡◌, sym, ◌∙◌}
-use mathlib.Core.Bool.{false}
-use borrow.Author.Rules.{rules}
-use Rattle.xml.specs.Alike.{Alike, alike-none, alike-more, alike-part}
+use mathlib.Core.Path.{sym, ◌∙◌}
+use Rattle.xml.specs.Alike.{alike-none, alike-more, alike-part}
 use Rattle.xml.specs.Truth.{or_left, or_right}
 use Rattle.xml.proofs.compare.has_unlike.Goals as goal
 

@@ -1,13 +1,9 @@
 -- `xml::compare::is_white` meets its contract: what the run means is white where its raw bytes from i on are. Assumes nothing.
 use Prim.Native.Nat.{◌-◌, ◌≤◌}
-use native.Mathlib.Omega.{arith}
-use mathlib.Core.Path.{◌≡◌, sym, ◌∙◌}
-use borrow.Author.Rules.{rules}
-use borrow.Author.Tests.{not-true, not-false}
+use mathlib.Core.Path.{◌≡◌}
 use lib.Seq.{slice}
 use Rattle.xml.specs.Bytes.{all, is_white}
 use Rattle.xml.specs.Read.{unescape}
-use Rattle.xml.specs.CompareLaws.{white-meant, white-more, white-other, white-over}
 use Rattle.xml.proofs.compare.is_white.Given as goal
 
 abbrev pub invariant-loop-i : goal.invariant-loop-i

@@ -1,10 +1,8 @@
 -- `xml::compare::same_bytes` meets its contract: the parts are the same where what is left of them is. Assumes nothing.
 use Prim.Native.Nat.{◌-◌, ◌≤◌}
-use native.Mathlib.Omega.{arith}
-use mathlib.Core.Path.{◌≡◌, refl, sym, ◌∙◌}
+use mathlib.Core.Path.{◌≡◌}
 use lib.Seq.{slice}
 use Rattle.xml.specs.Bytes.{same}
-use Rattle.xml.specs.CompareLaws.{bytes-more, bytes-other, bytes-over, bytes_apart}
 use Rattle.xml.proofs.compare.same_bytes.Given as goal
 
 abbrev pub invariant-loop-i : goal.invariant-loop-i

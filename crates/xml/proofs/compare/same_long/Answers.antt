@@ -1,7 +1,6 @@
 -- `xml::compare::same_long` meets its contract: after the blocks that are alike the rest tells. Assumes nothing.
 use native.Mathlib.Omega.{arith}
 use mathlib.Core.Path.{sym, ◌∙◌}
-use borrow.Author.Rules.{rules}
 use Rattle.xml.specs.CompareLaws.{bytes_apart}
 use Rattle.xml.specs.Alike.{alike_same}
 use Rattle.xml.proofs.compare.same_long.Goals as goal

@@ -1,5 +1,4 @@
 -- `xml::compare::same_meaning` meets its contract, for runs and for names. Assumes nothing.
-use borrow.Author.Rules.{rules}
 use Rattle.xml.proofs.compare.same_meaning.Goals as goal
 
 pub returns-then-run : goal.returns-then-run

@@ -1,10 +1,10 @@
 -- `xml::compare::same_nodes` meets its contract: the nodes passed agree; where two do not, the forests differ (SameTapes). Assumes nothing.
-use Prim.Native.Nat.{◌+◌, ◌-◌, ◌<◌, ◌≤◌}
+use Prim.Native.Nat.{◌<◌}
 use native.Mathlib.Omega.{arith}
 use mathlib.Core.Path.{◌≡◌, sym, ◌∙◌}
 use Rattle.xml.specs.BytesLaws.{same-is}
 use Rattle.xml.specs.TapeLaws.{tape-le}
-use Rattle.xml.specs.SameTapes.{At, tape-at, Agree, agree-more, apart, apart-size, together, same_not, not-true, not-false}
+use Rattle.xml.specs.SameTapes.{At, tape-at, agree-more, apart, apart-size, together, same_not}
 use Rattle.xml.proofs.compare.same_nodes.Goals as goal
 
 pub overflow_sub-hi1 : goal.overflow_sub-hi1

@@ -1,10 +1,7 @@
 -- `xml::compare::same_nodes` meets its contract: the nodes passed agree; where two do not, the forests differ (SameTapes). Assumes nothing.
-use Prim.Native.Nat.{◌+◌, ◌-◌, ◌<◌, ◌≤◌}
-use native.Mathlib.Omega.{arith}
-use mathlib.Core.Path.{◌≡◌, sym, ◌∙◌}
-use Rattle.xml.specs.BytesLaws.{same-is}
-use Rattle.xml.specs.TapeLaws.{tape-le}
-use Rattle.xml.specs.SameTapes.{At, tape-at, Agree, agree-more, apart, apart-size, together, same_not, not-true, not-false}
+use Prim.Native.Nat.{◌+◌, ◌-◌, ◌≤◌}
+use mathlib.Core.Path.{◌≡◌}
+use Rattle.xml.specs.SameTapes.{Agree}
 use Rattle.xml.proofs.compare.same_nodes.Given as goal
 
 abbrev pub invariant-loop-i : goal.invariant-loop-i

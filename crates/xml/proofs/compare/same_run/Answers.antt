@@ -1,13 +1,8 @@
 -- `xml::compare::same_run` meets its contract: the runs mean the same where what is left of them does. Assumes nothing.
-use Prim.Native.Nat.{◌-◌, ◌≤◌}
 use native.Mathlib.Omega.{arith}
 use mathlib.Core.Path.{◌≡◌, refl, sym, ◌∙◌, subst}
-use lib.Seq.{slice}
-use Rattle.xml.specs.Bytes.{same}
-use Rattle.xml.specs.Read.{unescape}
 use Rattle.xml.specs.SignLaws.{Meant, sign-means}
 use Rattle.xml.specs.CompareLaws.{run_more, run-other, run-left, run_ends}
-use borrow.Author.Rules.{rules}
 use Rattle.xml.proofs.compare.same_run.Goals as goal
 
 pub returns-then-ends_differ : goal.returns-then-ends_differ

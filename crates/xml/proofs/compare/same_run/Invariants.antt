@@ -1,13 +1,9 @@
 -- `xml::compare::same_run` meets its contract: the runs mean the same where what is left of them does. Assumes nothing.
 use Prim.Native.Nat.{◌-◌, ◌≤◌}
-use native.Mathlib.Omega.{arith}
-use mathlib.Core.Path.{◌≡◌, refl, sym, ◌∙◌, subst}
+use mathlib.Core.Path.{◌≡◌}
 use lib.Seq.{slice}
 use Rattle.xml.specs.Bytes.{same}
 use Rattle.xml.specs.Read.{unescape}
-use Rattle.xml.specs.SignLaws.{Meant, sign-means}
-use Rattle.xml.specs.CompareLaws.{run_more, run-other, run-left, run_ends}
-use borrow.Author.Rules.{rules}
 use Rattle.xml.proofs.compare.same_run.Given as goal
 
 abbrev pub invariant-loop-i : goal.invariant-loop-i

@@ -1,7 +1,6 @@
 -- `xml::compare::text_len` meets its contract: a run with no marked byte is written as it stands, and an empty output measures others. Assumes nothing.
 use mathlib.Core.Path.{sym, ◌∙◌}
 use Rattle.xml.specs.SignLaws.{plain-length}
-use borrow.Author.Rules.{rules}
 use Rattle.xml.proofs.compare.text_len.Goals as goal
 
 pub returns-then-plain_end-e : goal.returns-then-plain_end-e

@@ -2,12 +2,9 @@
 -- Of the siblings, those from p on are to stand at the place where the loop has come to. Assumes nothing.
 use native.Mathlib.Omega.{arith}
 use mathlib.Core.Path.{sym, ◌∙◌}
-use lib.ListN.{length}
-use Rattle.xml.specs.Forest.{Forest, write}
-use Rattle.xml.specs.MatchingLaws.{Due, match-fits, match-past, match-then, due-none, due-more, due-done, text-matches}
-use Rattle.xml.specs.Tape.{Tape, next_at}
+use Rattle.xml.specs.MatchingLaws.{match-fits, match-past, match-then, due-none, due-more, due-done, text-matches}
+use Rattle.xml.specs.Tape.{next_at}
 use Rattle.xml.specs.TapeLaws.{Front, Inner, Split, front, inner-node, split}
-use Prim.Native.Nat.{ℕ, ◌+◌, ◌*◌, ◌-◌, ◌<◌, ◌≤◌}
 use Rattle.xml.proofs.matching.+match_content_match_element.Goals as goal
 
 pub match_content-loop-p-init : goal.match_content-loop-p-init

@@ -1,13 +1,10 @@
 -- `xml::matching::match_content` and `xml::matching::match_element` meet their contracts: they call each other, and the nodes that are left fall.
 -- Of the siblings, those from p on are to stand at the place where the loop has come to. Assumes nothing.
-use native.Mathlib.Omega.{arith}
-use mathlib.Core.Path.{sym, ◌∙◌}
 use lib.ListN.{length}
 use Rattle.xml.specs.Forest.{Forest, write}
-use Rattle.xml.specs.MatchingLaws.{Due, match-fits, match-past, match-then, due-none, due-more, due-done, text-matches}
+use Rattle.xml.specs.MatchingLaws.{Due}
 use Rattle.xml.specs.Tape.{Tape, next_at}
-use Rattle.xml.specs.TapeLaws.{Front, Inner, Split, front, inner-node, split}
-use Prim.Native.Nat.{ℕ, ◌+◌, ◌*◌, ◌-◌, ◌<◌, ◌≤◌}
+use Prim.Native.Nat.{◌+◌, ◌*◌, ◌-◌, ◌≤◌}
 use Rattle.xml.proofs.matching.+match_content_match_element.Given as goal
 
 abbrev pub decreases-match_content : goal.decreases-match_content

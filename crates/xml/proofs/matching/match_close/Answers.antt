@@ -2,7 +2,6 @@
 use Rattle.xml.specs.Bytes.{bytes}
 use Rattle.xml.specs.MatchingLaws.{match-fits, match-then}
 use Rattle.xml.specs.TapeLaws.{closing}
-use borrow.Author.Rules.{rules}
 use Rattle.xml.proofs.matching.match_close.Goals as goal
 
 pub match_part-last-requires : goal.match_part-last-requires

@@ -1,7 +1,6 @@
 -- `xml::matching::match_escaped` meets its contract, for each byte that is an entity, and any other. Assumes nothing.
 use Rattle.xml.specs.Bytes.{bytes}
 use Rattle.xml.specs.SignLaws.{escape-amp, escape-lt, escape-gt, escape-one}
-use borrow.Author.Rules.{rules}
 use Rattle.xml.proofs.matching.match_escaped.Goals as goal
 
 pub returns-then-b-eq38 : goal.returns-then-b-eq38

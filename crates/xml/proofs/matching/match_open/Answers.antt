@@ -2,7 +2,6 @@
 use Rattle.xml.specs.Bytes.{bytes}
 use Rattle.xml.specs.MatchingLaws.{match-fits, match-then}
 use Rattle.xml.specs.TapeLaws.{opening}
-use borrow.Author.Rules.{rules}
 use Rattle.xml.proofs.matching.match_open.Goals as goal
 
 pub match_tag-last-requires : goal.match_tag-last-requires

@@ -3,7 +3,6 @@ use mathlib.Core.Path.{ap, sym, ◌∙◌}
 use Rattle.xml.specs.Matching.{match_at}
 use Rattle.xml.specs.MatchingLaws.{match-here}
 use Rattle.xml.proofs.Tags.{part-is}
-use borrow.Author.Rules.{rules}
 use Rattle.xml.proofs.matching.match_part.Goals as goal
 
 pub returns-then-a-at : goal.returns-then-a-at

@@ -1,13 +1,10 @@
 -- `xml::matching::match_text` meets its contract: what is left of the run is to stand at the place where the loop has come to. Assumes nothing.
 use Prim.Native.Nat.{◌+◌, ◌-◌, ◌≤◌}
-use native.Mathlib.Omega.{arith}
-use mathlib.Core.Path.{◌≡◌, sym, ◌∙◌, subst}
+use mathlib.Core.Path.{◌≡◌}
 use lib.ListN.{length}
 use lib.Seq.{slice}
 use Rattle.xml.specs.Matching.{match_at}
-use Rattle.xml.specs.MatchingLaws.{match-fits, match_none, match-on}
 use Rattle.xml.specs.Signs.{spelt}
-use Rattle.xml.specs.SignLaws.{Meant, Running, running, sign-means, spelt-over, spelt-sign}
 use Rattle.xml.proofs.matching.match_text.Given as goal
 
 abbrev pub invariant-loop-i : goal.invariant-loop-i

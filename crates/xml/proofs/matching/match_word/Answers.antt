@@ -1,7 +1,6 @@
 -- `xml::matching::match_word` meets its contract: nothing stands past the end, and elsewhere the bytes that agree are counted. Assumes nothing.
 use mathlib.Core.Path.{sym, ◌∙◌}
 use Rattle.xml.specs.MatchingLaws.{match-hit, match-miss, match-past}
-use borrow.Author.Rules.{rules}
 use Rattle.xml.proofs.matching.match_word.Goals as goal
 
 pub returns-then-src-at : goal.returns-then-src-at

@@ -5,7 +5,6 @@ use mathlib.Core.Path.{ap, ◌∙◌}
 use Prim.Native.Nat.{ℕ}
 use Rattle.xml.specs.Forest.{write}
 use Rattle.xml.specs.MatchingLaws.{match-same}
-use borrow.Author.Rules.{rules}
 use Rattle.xml.proofs.matching.matches.Goals as goal
 
 pub returns : goal.returns

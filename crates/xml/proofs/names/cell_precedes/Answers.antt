@@ -1,7 +1,6 @@
 -- `xml::names::cell_precedes` meets its contract: the whole of the name is compared. Assumes nothing.
 use mathlib.Core.Path.{ap, ◌∙◌}
 use lib.Seq.{take-length}
-use borrow.Author.Rules.{rules}
 use Rattle.xml.specs.Tags.{less}
 use Rattle.xml.specs.NameCells.{name_in}
 use Rattle.xml.proofs.names.cell_precedes.Goals as goal

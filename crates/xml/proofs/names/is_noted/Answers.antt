@@ -6,7 +6,6 @@ use lib.Seq.{take-length}
 use Rattle.xml.specs.Bytes.{same}
 use Rattle.xml.specs.NameCells.{name_at}
 use Rattle.xml.specs.NameCellLaws.{not_noted, noted-as}
-use borrow.Author.Rules.{rules}
 use Rattle.xml.proofs.names.is_noted.Goals as goal
 
 pub returns-then-i-k : goal.returns-then-i-k

@@ -1,9 +1,6 @@
 -- `xml::names::names_before` meets its contract: the names below `lo` come before the name, those from `hi` on do not. Assumes nothing.
 use Prim.Native.Nat.{◌-◌}
-use native.Mathlib.Omega.{arith}
-use mathlib.Core.Path.{◌≡◌, sym, ◌∙◌}
 use Rattle.xml.specs.NameCells.{Parted}
-use Rattle.xml.specs.NameCellLaws.{parted-all, parted-up, parted-down}
 use Rattle.xml.proofs.names.names_before.Given as goal
 
 abbrev pub invariant-loop-lo : goal.invariant-loop-lo

@@ -6,7 +6,6 @@ use lib.Seq.{slice}
 use Rattle.xml.specs.Bytes.{Bytes}
 use Rattle.xml.specs.NameCells.{Parted}
 use Rattle.xml.specs.NameCellLaws.{noted_more, put-below}
-use borrow.Author.Rules.{rules}
 use Rattle.xml.proofs.Tags.{part-is}
 use Rattle.xml.proofs.names.note.Goals as goal
 

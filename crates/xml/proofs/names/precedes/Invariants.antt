@@ -1,10 +1,8 @@
 -- `xml::names::precedes` meets its contract: one part comes before the other where what is left of it does. Assumes nothing.
 use Prim.Native.Nat.{◌-◌, ◌≤◌}
-use native.Mathlib.Omega.{arith}
-use mathlib.Core.Path.{◌≡◌, refl, sym, ◌∙◌}
+use mathlib.Core.Path.{◌≡◌}
 use lib.Seq.{slice}
 use Rattle.xml.specs.Tags.{less}
-use Rattle.xml.specs.NameCellLaws.{order-first, order-more, order_other, order-over}
 use Rattle.xml.proofs.names.precedes.Given as goal
 
 abbrev pub invariant-loop-j : goal.invariant-loop-j

@@ -1,9 +1,6 @@
 -- `xml::names::shift` meets its contract: the cells from i on stand one further. Assumes nothing.
 use Prim.Native.Nat.{◌≤◌}
-use native.Mathlib.Omega.{arith}
-use mathlib.Core.Path.{◌≡◌}
 use Rattle.xml.specs.NameCells.{Shifted}
-use Rattle.xml.specs.NameCellLaws.{shifted_none, shifted-more}
 use Rattle.xml.proofs.names.shift.Given as goal
 
 abbrev pub invariant-loop-i : goal.invariant-loop-i

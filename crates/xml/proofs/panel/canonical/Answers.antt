@@ -1,7 +1,6 @@
 -- `xml::panel::canonical` meets its contract: a law for each answer (CanonicalLaws). Assumes nothing.
 use mathlib.Core.Path.{ap, ◌∙◌}
 use lib.ListN.{replicate}
-use borrow.Author.Rules.{rules}
 use Rattle.xml.specs.CanonicalLaws.{answer-long, answer-narrow, answer-read}
 use Rattle.xml.proofs.panel.canonical.Goals as goal
 

@@ -1,6 +1,5 @@
 -- `xml::panel::form` meets its contract, by what `write` ensures of an empty output and of the lent one. Assumes nothing.
 use Rattle.xml.specs.CanonicalLaws.{form-short, form-done}
-use borrow.Author.Rules.{rules}
 use Rattle.xml.proofs.panel.form.Goals as goal
 
 pub returns-then-out-count : goal.returns-then-out-count

@@ -2,7 +2,6 @@
 use native.Mathlib.Omega.{arith}
 use mathlib.Core.Path.{subst}
 use mathlib.Core.Bool.{false}
-use borrow.Author.Rules.{rules}
 use Rattle.xml.specs.State.{Replied}
 use Rattle.xml.specs.CanonicalLaws.{read-wrong, read_whole, filled-few}
 use Rattle.xml.proofs.panel.read_form.Goals as goal

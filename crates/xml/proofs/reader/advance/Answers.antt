@@ -1,10 +1,8 @@
 -- `xml::reader::advance` meets its contract: each token's function has the same one, and there is a law for each return outside the root
 -- (Closes). Assumes nothing.
 use mathlib.Core.Path.{sym, ◌∙◌}
-use mathlib.Core.Logic.{⊎_elim}
 use native.Mathlib.Omega.{arith}
 use Rattle.xml.proofs.Closes.{opening, outside, outside-white, outside-other, outside-second, opening-root}
-use borrow.Author.Rules.{rules}
 use Rattle.xml.proofs.reader.advance.Goals.{then-top-gt0-2+else-byte_at-eq47, else-top-gt0-2+else-count-gt0}
 use Rattle.xml.proofs.reader.advance.Goals as goal
 
@@ -20,6 +18,6 @@ returns-then-count-gt0 c = outside-second (outside c.requires c.if-top-gt0-2.fal
 pub open_tag-requires : goal.open_tag-requires
 open_tag-requires c =
     elim c.if-top-gt0-2.branch [
-      then-top-gt0-2+else-byte_at-eq47 w ↦ opening c.requires w.if-top-gt0-2.true c.if-b-ne60.false (λ x. w.if-byte_at-eq47.false (w.byte_at.ensures ∙ x))
-    | else-top-gt0-2+else-count-gt0 w ↦ opening-root c.requires w.if-top-gt0-2.false c.if-b-ne60.false w.if-count-gt0.false
+      | then-top-gt0-2+else-byte_at-eq47 w ↦ opening c.requires w.if-top-gt0-2.true c.if-b-ne60.false (λ x. w.if-byte_at-eq47.false (w.byte_at.ensures ∙ x))
+      | else-top-gt0-2+else-count-gt0 w ↦ opening-root c.requires w.if-top-gt0-2.false c.if-b-ne60.false w.if-count-gt0.false
     ]

@@ -2,7 +2,6 @@
 use mathlib.Core.Path.{sym, ◌∙◌}
 use native.Mathlib.Omega.{arith}
 use Rattle.xml.proofs.Turns.{stop-in, run-bad, run_small, run-good}
-use borrow.Author.Rules.{rules}
 use Rattle.xml.proofs.reader.characters.Goals as goal
 
 pub overflow_add-result : goal.overflow_add-result

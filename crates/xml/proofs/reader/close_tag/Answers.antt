@@ -3,7 +3,6 @@ use Rattle.xml.specs.declared.Run.TheVariants.{Upto, Stop}
 use Rattle.xml.proofs.Closes.{seen-in, told, stop-in, close-in, close-bad, close-seen}
 use native.Mathlib.Omega.{arith}
 use Rattle.xml.proofs.Steps.{top-le}
-use borrow.Author.Rules.{rules}
 use Rattle.xml.proofs.reader.close_tag.Goals as goal
 
 pub view_at-v-requires : goal.view_at-v-requires

@@ -2,7 +2,6 @@
 use mathlib.Core.Path.{refl}
 use native.Mathlib.Omega.{arith}
 use lib.ListN.{length-set}
-use borrow.Author.Rules.{rules}
 use Rattle.xml.proofs.reader.node.Goals as goal
 
 pub returns-then-tape-count : goal.returns-then-tape-count

@@ -6,7 +6,6 @@ use lib.ListN.{drop}
 use Rattle.xml.specs.Tokens.{StartRead}
 use Rattle.xml.proofs.Steps.{top-le}
 use Rattle.xml.proofs.Turns.{open-bad, bad-in, opens_in, lone-in, timed-in, opens-good, lone-good, timed-good}
-use borrow.Author.Rules.{rules}
 use Rattle.xml.proofs.reader.open_tag.Goals as goal
 
 pub overflow_add-result : goal.overflow_add-result

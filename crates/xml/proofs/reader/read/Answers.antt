@@ -1,11 +1,8 @@
 -- `xml::reader::read` meets its contract. The invariant: from what is held, reading goes on to the text's answer (Reading), and the cells
 -- after it are as they were. Assumes nothing.
-use mathlib.Core.Path.{◌≡◌, refl, ◌∙◌, subst}
-use Prim.Native.Nat.{◌-◌}
+use mathlib.Core.Path.{refl, ◌∙◌, subst}
 use native.Mathlib.Omega.{arith}
-use borrow.Author.Rules.{rules}
-use lib.ListN.{length}
-use Rattle.xml.specs.State.{Reading, Untouched, Stepped}
+use Rattle.xml.specs.State.{Stepped}
 use Rattle.xml.proofs.Closes.{begin, end-inside, end_none, end-done}
 use Rattle.xml.proofs.reader.read.Goals as goal
 

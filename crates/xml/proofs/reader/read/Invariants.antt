@@ -1,12 +1,9 @@
 -- `xml::reader::read` meets its contract. The invariant: from what is held, reading goes on to the text's answer (Reading), and the cells
 -- after it are as they were. Assumes nothing.
-use mathlib.Core.Path.{◌≡◌, refl, ◌∙◌, subst}
+use mathlib.Core.Path.{◌≡◌}
 use Prim.Native.Nat.{◌-◌}
-use native.Mathlib.Omega.{arith}
-use borrow.Author.Rules.{rules}
 use lib.ListN.{length}
-use Rattle.xml.specs.State.{Reading, Untouched, Stepped}
-use Rattle.xml.proofs.Closes.{begin, end-inside, end_none, end-done}
+use Rattle.xml.specs.State.{Reading, Untouched}
 use Rattle.xml.proofs.reader.read.Given as goal
 
 abbrev pub invariant-loop-at : goal.invariant-loop-at

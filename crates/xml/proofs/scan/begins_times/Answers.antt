@@ -3,11 +3,10 @@ use Prim.Native.Char.{code}
 use Prim.Native.Nat.{ℕ, ◌+◌}
 use mathlib.Core.Path.{ap, ap₂, sym, ◌∙◌}
 use mathlib.Core.Bool.{Bool, ◌&&◌}
-use borrow.Author.Tests.{eq-eqb, ne_eqb, not-true, not-false}
+use borrow.Author.Tests.{eq-eqb, ne_eqb}
 use lib.Dec.{eqb}
 use lib.ListN.{get_or}
 use Rattle.xml.specs.Tokens.{begins_times}
-use borrow.Author.Rules.{rules}
 use Rattle.xml.proofs.scan.begins_times.Goals as goal
 
 pub returns-then-not-archive : goal.returns-then-not-archive

@@ -1,5 +1,4 @@
 -- `xml::scan::byte_at` meets its contract: past the end, `get_or` is 0. Assumes nothing.
-use borrow.Author.Rules.{rules}
 use mathlib.Core.Path.{sym}
 use lib.ListN.{get_or-eq_default}
 use Rattle.xml.proofs.scan.byte_at.Goals as goal

@@ -1,6 +1,5 @@
 -- `xml::scan::end_name` meets its contract: a law for each return (Tags). Assumes nothing.
 use Rattle.xml.proofs.Tags.{end-off-here, end-open-here, end-shut-here}
-use borrow.Author.Rules.{rules}
 use Rattle.xml.proofs.scan.end_name.Goals as goal
 
 pub returns-then-m-name : goal.returns-then-m-name

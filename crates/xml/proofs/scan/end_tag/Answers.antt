@@ -5,7 +5,6 @@ use Rattle.xml.specs.Bytes.{Bytes, bytes}
 use Rattle.xml.specs.Tokens.{EndNamed, end-times, end-element}
 use Rattle.xml.proofs.Tags.{part-is}
 use mathlib.Core.Path.{subst}
-use borrow.Author.Rules.{rules}
 use Rattle.xml.proofs.scan.end_tag.Goals as goal
 
 pub returns-then-kind-eq2 : goal.returns-then-kind-eq2

@@ -1,6 +1,5 @@
 -- `xml::scan::entity_at` meets its contract: by the five counts. Assumes nothing.
 use mathlib.Core.Path.{sym, ◌∙◌}
-use borrow.Author.Rules.{rules}
 use lib.ListN.{drop}
 use Rattle.xml.specs.Bytes.{bytes}
 use Rattle.xml.specs.ScanLaws.{entity-lt, entity-gt, entity-amp, entity-quot, entity-apos, entity-miss}

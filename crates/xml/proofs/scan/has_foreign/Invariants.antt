@@ -1,12 +1,9 @@
 -- `xml::scan::has_foreign` meets its contract. The invariant: where there was no hit, the bytes passed are of times. Assumes nothing.
 use Prim.Native.Nat.{◌+◌, ◌-◌, ◌≤◌}
-use native.Mathlib.Omega.{arith}
-use mathlib.Core.Path.{◌≡◌, sym, ◌∙◌}
+use mathlib.Core.Path.{◌≡◌}
 use mathlib.Core.Bool.{true, false}
-use borrow.Author.Rules.{rules}
-use borrow.Author.Tests.{not-false}
 use Rattle.xml.specs.Bytes.{is_times}
-use Rattle.xml.specs.Stretch.{Each, each_none, each_part, no_hit}
+use Rattle.xml.specs.Stretch.{Each}
 use Rattle.xml.proofs.scan.has_foreign.Given as goal
 
 abbrev pub invariant-loop-i : goal.invariant-loop-i

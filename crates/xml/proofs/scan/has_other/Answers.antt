@@ -1,12 +1,8 @@
 -- `xml::scan::has_other` meets its contract. The invariant: where there was no hit, each byte passed is plain. Assumes nothing.
-use Prim.Native.Nat.{◌+◌, ◌-◌, ◌≤◌}
 use native.Mathlib.Omega.{arith}
-use mathlib.Core.Path.{◌≡◌, sym, ◌∙◌}
-use mathlib.Core.Bool.{true, false}
-use borrow.Author.Rules.{rules}
+use mathlib.Core.Path.{sym, ◌∙◌}
 use borrow.Author.Tests.{not-false}
-use Rattle.xml.specs.ByteTests.{is_plain}
-use Rattle.xml.specs.Stretch.{Each, each_none, each_part, no_hit}
+use Rattle.xml.specs.Stretch.{each_none, each_part, no_hit}
 use Rattle.xml.proofs.scan.has_other.Goals as goal
 
 pub loop-i-init : goal.loop-i-init

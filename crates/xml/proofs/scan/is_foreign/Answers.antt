@@ -2,7 +2,6 @@
 use Prim.Native.Char.{code}
 use mathlib.Core.Path.{◌∙◌, ap}
 use mathlib.Core.Bool.{Bool, false, not, ◌||◌}
-use borrow.Author.Rules.{rules}
 use lib.Dec.{eqb}
 use Rattle.xml.specs.Bytes.{bytes, any, among, is_digit, is_times}
 use Rattle.xml.specs.Truth.{or-four}

@@ -1,7 +1,6 @@
 -- `xml::scan::is_plain` meets its contract: a law for each return. Assumes nothing.
 use mathlib.Core.Path.{sym, ◌∙◌, ap}
 use mathlib.Core.Bool.{not, not-not}
-use borrow.Author.Rules.{rules}
 use Rattle.xml.specs.ByteTests.{is_plain, plain-digit, plain-markup}
 use Rattle.xml.proofs.scan.is_plain.Goals as goal
 

@@ -2,8 +2,6 @@
 use mathlib.Core.Path.{sym, ◌∙◌, ap}
 use Prim.Native.Nat.{ℕ, ◌+◌}
 use native.Mathlib.Omega.{arith}
-use borrow.Author.Rules.{rules}
-use borrow.Author.Tests.{not-true, not-false}
 use lib.ListN.{drop, length-drop}
 use Rattle.xml.specs.ScanLaws.{name_rest-fits, name_len-end, name_len-stop, name_len-more}
 use Rattle.xml.proofs.scan.name_len.Goals as goal

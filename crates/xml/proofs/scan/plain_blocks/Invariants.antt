@@ -1,10 +1,9 @@
 -- `xml::scan::plain_blocks` meets its contract. The invariant: it holds of the place reached. Assumes nothing.
 use Prim.Native.Nat.{◌-◌}
-use native.Mathlib.Omega.{arith}
 use mathlib.Core.Bool.{true}
 use lib.ListN.{length}
 use Rattle.xml.specs.ByteTests.{is_plain}
-use Rattle.xml.specs.Stretch.{Passed, passed_none, passed_then}
+use Rattle.xml.specs.Stretch.{Passed}
 use Rattle.xml.proofs.scan.plain_blocks.Given as goal
 
 abbrev pub invariant-loop-j : goal.invariant-loop-j

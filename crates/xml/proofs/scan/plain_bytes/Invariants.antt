@@ -1,12 +1,8 @@
 -- `xml::scan::plain_bytes` meets its contract. The invariant: it holds of the place reached. Assumes nothing.
 use Prim.Native.Nat.{◌-◌}
-use native.Mathlib.Omega.{arith}
-use mathlib.Core.Path.{sym, ◌∙◌}
 use mathlib.Core.Bool.{true}
-use borrow.Author.Rules.{rules}
-use borrow.Author.Tests.{not-false}
 use Rattle.xml.specs.ByteTests.{is_plain}
-use Rattle.xml.specs.Stretch.{Passed, passed_none, passed-more}
+use Rattle.xml.specs.Stretch.{Passed}
 use Rattle.xml.proofs.scan.plain_bytes.Given as goal
 
 abbrev pub invariant-loop-j : goal.invariant-loop-j

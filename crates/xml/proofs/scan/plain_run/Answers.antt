@@ -1,7 +1,6 @@
 -- `xml::scan::plain_run` meets its contract: its parts pass over plain bytes. Assumes nothing.
 use native.Mathlib.Omega.{arith}
 use lib.ListN.{length}
-use borrow.Author.Rules.{rules}
 use Rattle.xml.specs.Stretch.{passed_none, passed_then, passed_on}
 use Rattle.xml.proofs.scan.plain_run.Goals as goal
 

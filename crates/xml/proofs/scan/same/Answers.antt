@@ -1,11 +1,9 @@
 -- `xml::scan::same` meets its contract. The invariant: n bytes agree, and then as many as the rests have in common. Assumes nothing.
-use mathlib.Core.Path.{◌≡◌}
-use Prim.Native.Nat.{◌+◌, ◌-◌, ◌<◌, ◌≤◌}
+use Prim.Native.Nat.{◌+◌, ◌<◌}
 use native.Mathlib.Nat.{add-zero, zero-add}
 use native.Mathlib.Omega.{arith}
 use borrow.Author.Tests.{ltb-true, ltb-false}
-use lib.ListN.{length, drop}
-use Rattle.xml.specs.Read.{common}
+use lib.ListN.{length}
 use Rattle.xml.specs.ScanLaws.{common-end, common-done, common-stop, common-more}
 use Rattle.xml.proofs.scan.same.Goals as goal
 

@@ -6,7 +6,6 @@ use lib.ListN.{drop}
 use Rattle.xml.specs.Tokens.{TimesRead}
 use Rattle.xml.specs.declared.Run.TheVariants.{Upto, Stop}
 use Rattle.xml.proofs.Tags.{times-begun, times-here, name_in_lem, none_here, opens-here, other-here, lone-here, slash-here}
-use borrow.Author.Rules.{rules}
 use Rattle.xml.proofs.scan.start_tag.Goals as goal
 
 pub times_tag-requires : goal.times_tag-requires

@@ -8,7 +8,6 @@ use Rattle.xml.specs.ClassNumber.{legal-yes, legal-no}
 use Rattle.xml.specs.ScanLaws.{found_len, entity-fits}
 use Rattle.xml.specs.TextLaws.{byte-over, byte-hit, byte-miss, byte-bracket, byte-closed, byte-greater, byte-other}
 use Rattle.xml.specs.declared.Found.{Found}
-use borrow.Author.Rules.{rules}
 use Rattle.xml.proofs.scan.text_byte.Goals as goal
 
 pub returns-then-b-eq60 : goal.returns-then-b-eq60

@@ -1,10 +1,7 @@
 -- `xml::scan::text_run` meets its contract. The invariant: the run from `at` is the run from j, after q times `]`. Assumes nothing.
-use mathlib.Core.Path.{sym, ◌∙◌}
 use Prim.Native.Nat.{◌-◌}
-use native.Mathlib.Omega.{arith}
-use borrow.Author.Rules.{rules}
 use lib.ListN.{length}
-use Rattle.xml.proofs.TextRuns.{Reached, run-start, run_end, run-over, run-off, run_on, off-fits, on_fits}
+use Rattle.xml.proofs.TextRuns.{Reached}
 use Rattle.xml.proofs.scan.text_run.Given as goal
 
 abbrev pub invariant-loop-j : goal.invariant-loop-j

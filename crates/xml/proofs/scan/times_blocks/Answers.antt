@@ -1,10 +1,6 @@
 -- `xml::scan::times_blocks` meets its contract. The invariant: it holds of the place reached. Assumes nothing.
-use Prim.Native.Nat.{◌-◌}
 use native.Mathlib.Omega.{arith}
-use mathlib.Core.Bool.{true}
-use lib.ListN.{length}
-use Rattle.xml.specs.Bytes.{is_times}
-use Rattle.xml.specs.Stretch.{Passed, passed_none, passed_then}
+use Rattle.xml.specs.Stretch.{passed_none, passed_then}
 use Rattle.xml.proofs.scan.times_blocks.Goals as goal
 
 pub loop-j-init : goal.loop-j-init

@@ -1,12 +1,8 @@
 -- `xml::scan::times_bytes` meets its contract. The invariant: the bytes passed are of times. Assumes nothing.
-use Prim.Native.Nat.{◌-◌}
 use native.Mathlib.Omega.{arith}
 use mathlib.Core.Path.{sym, ◌∙◌}
-use mathlib.Core.Bool.{true}
-use borrow.Author.Rules.{rules}
 use borrow.Author.Tests.{not-true, not-false}
-use Rattle.xml.specs.Bytes.{is_times}
-use Rattle.xml.specs.Stretch.{Passed, passed_none, passed-more}
+use Rattle.xml.specs.Stretch.{passed_none, passed-more}
 use Rattle.xml.proofs.scan.times_bytes.Goals as goal
 
 pub loop-j-init : goal.loop-j-init

@@ -1,6 +1,5 @@
 -- `xml::scan::times_len` meets its contract: its parts pass over bytes of times, and the last stops at another byte or the end. Assumes nothing.
 use native.Mathlib.Omega.{arith}
-use borrow.Author.Rules.{rules}
 use Rattle.xml.specs.Stretch.{passed_on, times-within, times-after, times-there}
 use Rattle.xml.proofs.scan.times_len.Goals as goal
 

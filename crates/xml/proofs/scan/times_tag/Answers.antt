@@ -2,7 +2,6 @@
 use native.Mathlib.Omega.{arith}
 use Rattle.xml.specs.Bytes.{bytes}
 use Rattle.xml.proofs.Tags.{word_in, word-off, times-in, shut-in, times-open-here, times-shut-here}
-use borrow.Author.Rules.{rules}
 use Rattle.xml.proofs.scan.times_tag.Goals as goal
 
 pub overflow_add-result : goal.overflow_add-result

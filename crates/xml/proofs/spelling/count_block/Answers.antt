@@ -1,8 +1,7 @@
 -- `xml::spelling::count_block` meets its contract: one byte after the other is counted. Assumes nothing.
-use Prim.Native.Nat.{◌+◌, ◌-◌, ◌≤◌}
+use Prim.Native.Nat.{◌+◌}
 use native.Mathlib.Omega.{arith}
 use mathlib.Core.Path.{◌≡◌}
-use mathlib.Core.Logic.{⊎_elim}
 use lib.Dec.{eqb}
 use lib.ListN.{get_or}
 use Rattle.xml.specs.Neat.{one}

@@ -1,12 +1,6 @@
 -- `xml::spelling::count_block` meets its contract: one byte after the other is counted. Assumes nothing.
 use Prim.Native.Nat.{◌+◌, ◌-◌, ◌≤◌}
-use native.Mathlib.Omega.{arith}
-use mathlib.Core.Path.{◌≡◌}
-use mathlib.Core.Logic.{⊎_elim}
-use lib.Dec.{eqb}
-use lib.ListN.{get_or}
-use Rattle.xml.specs.Neat.{one}
-use Rattle.xml.specs.NeatLaws.{one-yes, one-no, Counting, counting-none, counting-next}
+use Rattle.xml.specs.NeatLaws.{Counting}
 use Rattle.xml.proofs.spelling.count_block.Given as goal
 
 abbrev pub invariant-loop-i : goal.invariant-loop-i

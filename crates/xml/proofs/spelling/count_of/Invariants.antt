@@ -1,11 +1,8 @@
 -- `xml::spelling::count_of` meets its contract: one block after the other is counted, and then the rest. Assumes nothing.
 use Prim.Native.Nat.{◌+◌, ◌-◌, ◌≤◌}
-use native.Mathlib.Omega.{arith}
 use mathlib.Core.Path.{◌≡◌}
-use borrow.Author.Rules.{rules}
 use lib.ListN.{length, drop}
 use Rattle.xml.specs.Neat.{count}
-use Rattle.xml.specs.NeatLaws.{count_most}
 use Rattle.xml.proofs.spelling.count_of.Given as goal
 
 abbrev pub invariant-loop-i : goal.invariant-loop-i

@@ -1,10 +1,7 @@
 -- `xml::spelling::count_tags` meets its contract: what is counted is the count of the nodes below i. Assumes nothing.
 use Prim.Native.Nat.{◌-◌, ◌≤◌}
-use native.Mathlib.Omega.{arith}
-use mathlib.Core.Path.{◌≡◌, refl}
-use mathlib.Core.Logic.{⊎_elim}
+use mathlib.Core.Path.{◌≡◌}
 use Rattle.xml.specs.Neat.{tags_below}
-use Rattle.xml.specs.NeatLaws.{below-text, below-tag}
 use Rattle.xml.proofs.spelling.count_tags.Given as goal
 
 abbrev pub invariant-loop-i : goal.invariant-loop-i

@@ -1,12 +1,9 @@
 -- `xml::spelling::has_other_block` meets its contract: what is found, or what the rest has, is what all have. Assumes nothing.
-use Prim.Native.Nat.{ℕ, ◌+◌, ◌-◌, ◌≤◌}
-use native.Mathlib.Omega.{arith}
-use mathlib.Core.Path.{◌≡◌, refl, sym, ◌∙◌, ap}
-use mathlib.Core.Bool.{Bool, ◌||◌, or_assoc}
-use borrow.Author.Rules.{rules}
+use Prim.Native.Nat.{◌+◌, ◌-◌, ◌≤◌}
+use mathlib.Core.Path.{◌≡◌}
+use mathlib.Core.Bool.{◌||◌}
 use lib.ListN.{drop}
 use Rattle.xml.specs.Neat.{others}
-use Rattle.xml.specs.NeatLaws.{others-next}
 use Rattle.xml.proofs.spelling.has_other_block.Given as goal
 
 abbrev pub invariant-loop-i : goal.invariant-loop-i

@@ -1,10 +1,9 @@
 -- `xml::spelling::has_other_rest` meets its contract: what the rest has is what all have. Assumes nothing.
-use Prim.Native.Nat.{◌+◌, ◌-◌}
+use Prim.Native.Nat.{◌+◌}
 use native.Mathlib.Omega.{arith}
 use mathlib.Core.Path.{◌≡◌, refl, sym, ◌∙◌, ap}
 use mathlib.Core.Bool.{Bool, ◌||◌}
-use borrow.Author.Rules.{rules}
-use lib.ListN.{length, drop}
+use lib.ListN.{drop}
 use Rattle.xml.specs.Neat.{others}
 use Rattle.xml.specs.NeatLaws.{others-next, others-over}
 use Rattle.xml.proofs.spelling.has_other_rest.Goals as goal

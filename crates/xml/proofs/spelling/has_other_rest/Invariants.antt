@@ -1,12 +1,8 @@
 -- `xml::spelling::has_other_rest` meets its contract: what the rest has is what all have. Assumes nothing.
-use Prim.Native.Nat.{◌+◌, ◌-◌}
-use native.Mathlib.Omega.{arith}
-use mathlib.Core.Path.{◌≡◌, refl, sym, ◌∙◌, ap}
-use mathlib.Core.Bool.{Bool, ◌||◌}
-use borrow.Author.Rules.{rules}
+use Prim.Native.Nat.{◌-◌}
+use mathlib.Core.Path.{◌≡◌}
 use lib.ListN.{length, drop}
 use Rattle.xml.specs.Neat.{others}
-use Rattle.xml.specs.NeatLaws.{others-next, others-over}
 use Rattle.xml.proofs.spelling.has_other_rest.Given as goal
 
 abbrev pub invariant-loop-i : goal.invariant-loop-i

@@ -1,7 +1,6 @@
 -- `xml::spelling::spelled` meets its contract: a law for each answer (NeatSpelled). Assumes nothing.
 use native.Mathlib.Omega.{arith}
 use mathlib.Core.Path.{◌≡◌, sym, ◌∙◌}
-use borrow.Author.Rules.{rules}
 use Rattle.xml.specs.Forest.{Forest}
 use Rattle.xml.specs.Tape.{Tape}
 use Rattle.xml.specs.TapeLaws.{tape-room}

@@ -1,12 +1,9 @@
 -- `xml::tag::attr_count` meets its contract: n attributes stand before the place i. Assumes nothing.
-use Prim.Native.Nat.{◌-◌}
 use mathlib.Core.Path.{refl, sym, subst}
 use native.Mathlib.Omega.{arith}
-use lib.ListN.{length}
-use borrow.Author.Rules.{rules}
 use Rattle.xml.specs.Tags.{parts}
 use Rattle.xml.specs.TagPlaces.{PartIn, part_in}
-use Rattle.xml.specs.TagSums.{Summed, summed-start, summed-next, summed-end, sum_ones}
+use Rattle.xml.specs.TagSums.{summed-start, summed-next, summed-end, sum_ones}
 use Rattle.xml.proofs.tag.attr_count.Goals as goal
 
 pub loop-i-init : goal.loop-i-init

@@ -1,12 +1,8 @@
 -- `xml::tag::attr_count` meets its contract: n attributes stand before the place i. Assumes nothing.
 use Prim.Native.Nat.{◌-◌}
-use mathlib.Core.Path.{refl, sym, subst}
-use native.Mathlib.Omega.{arith}
 use lib.ListN.{length}
-use borrow.Author.Rules.{rules}
 use Rattle.xml.specs.Tags.{parts}
-use Rattle.xml.specs.TagPlaces.{PartIn, part_in}
-use Rattle.xml.specs.TagSums.{Summed, summed-start, summed-next, summed-end, sum_ones}
+use Rattle.xml.specs.TagSums.{Summed}
 use Rattle.xml.proofs.tag.attr_count.Given as goal
 
 abbrev pub invariant-loop-i : goal.invariant-loop-i

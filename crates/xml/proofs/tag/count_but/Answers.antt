@@ -1,15 +1,10 @@
 -- `xml::tag::count_but` meets its contract: n attributes of other names stand before the place i. Assumes nothing.
-use Prim.Native.Nat.{◌-◌}
 use mathlib.Core.Path.{refl, sym, ◌∙◌, subst}
-use mathlib.Core.Logic.{⊎_elim}
 use native.Mathlib.Omega.{arith}
-use borrow.Author.Tests.{not-true, not-false}
-use lib.ListN.{length}
-use borrow.Author.Rules.{rules}
 use Rattle.xml.specs.Bytes.{bytes}
-use Rattle.xml.specs.Tags.{parts, count_but}
+use Rattle.xml.specs.Tags.{parts}
 use Rattle.xml.specs.TagPlaces.{PartIn, part_in}
-use Rattle.xml.specs.TagSums.{Summed, summed-start, summed-next, summed-end, other, sum-others, one-not, one-so}
+use Rattle.xml.specs.TagSums.{summed-start, summed-next, summed-end, sum-others, one-not, one-so}
 use Rattle.xml.proofs.tag.count_but.Goals.{then-not-is_byte, else-not-is_byte}
 use Rattle.xml.proofs.tag.count_but.Goals as goal
 
@@ -47,8 +42,8 @@ loop-i-preserved c =
     let p = here in
     let a = c.args in
     elim c.if-not-is_byte.branch [
-      then-not-is_byte w ↦ summed-next 1 c.loop-i.invariant p (one-not a.s.now c.loop-i.i c.part_at-p.result 116 (sym c.is_byte.ensures ∙ w.if-not-is_byte.true)) (omega (arith, p.named, p.valued)) refl w.n-is
-    | else-not-is_byte w ↦ summed-next 0 c.loop-i.invariant p (one-so a.s.now c.loop-i.i c.part_at-p.result 116 (sym c.is_byte.ensures ∙ w.if-not-is_byte.false)) (omega (arith, p.named, p.valued)) refl (omega (arith, w.n-is))
+      | then-not-is_byte w ↦ summed-next 1 c.loop-i.invariant p (one-not a.s.now c.loop-i.i c.part_at-p.result 116 (sym c.is_byte.ensures ∙ w.if-not-is_byte.true)) (omega (arith, p.named, p.valued)) refl w.n-is
+      | else-not-is_byte w ↦ summed-next 0 c.loop-i.invariant p (one-so a.s.now c.loop-i.i c.part_at-p.result 116 (sym c.is_byte.ensures ∙ w.if-not-is_byte.false)) (omega (arith, p.named, p.valued)) refl (omega (arith, w.n-is))
     ]
 
 pub returns : goal.returns

@@ -1,15 +1,9 @@
 -- `xml::tag::count_but` meets its contract: n attributes of other names stand before the place i. Assumes nothing.
 use Prim.Native.Nat.{◌-◌}
-use mathlib.Core.Path.{refl, sym, ◌∙◌, subst}
-use mathlib.Core.Logic.{⊎_elim}
-use native.Mathlib.Omega.{arith}
-use borrow.Author.Tests.{not-true, not-false}
 use lib.ListN.{length}
-use borrow.Author.Rules.{rules}
 use Rattle.xml.specs.Bytes.{bytes}
 use Rattle.xml.specs.Tags.{parts, count_but}
-use Rattle.xml.specs.TagPlaces.{PartIn, part_in}
-use Rattle.xml.specs.TagSums.{Summed, summed-start, summed-next, summed-end, other, sum-others, one-not, one-so}
+use Rattle.xml.specs.TagSums.{Summed, other}
 use Rattle.xml.proofs.tag.count_but.Given as goal
 
 abbrev pub invariant-loop-i : goal.invariant-loop-i

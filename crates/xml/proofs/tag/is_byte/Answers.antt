@@ -1,7 +1,6 @@
 -- `xml::tag::is_byte` meets its contract: a law for each return. Assumes nothing.
 use mathlib.Core.Path.{sym}
 use native.Mathlib.Omega.{arith}
-use borrow.Author.Rules.{rules}
 use Rattle.xml.specs.TagSums.{byte-same, byte-other}
 use Rattle.xml.proofs.tag.is_byte.Goals as goal
 

@@ -1,7 +1,6 @@
 -- `xml::tag::name_end` meets its contract: of a name alone, and of a name before a space. Assumes nothing.
 use mathlib.Core.Path.{ap, sym, ◌∙◌}
 use lib.ListN.{length}
-use borrow.Author.Rules.{rules}
 use Rattle.xml.specs.BytesLaws.{same-is}
 use Rattle.xml.specs.TagWritten.{until-name}
 use Rattle.xml.proofs.tag.name_end.Goals as goal

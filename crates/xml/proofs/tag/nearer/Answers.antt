@@ -2,10 +2,8 @@
 use Prim.Native.Nat.{◌+◌}
 use mathlib.Core.Path.{sym, ◌∙◌}
 use native.Mathlib.Omega.{arith}
-use borrow.Author.Tests.{not-true, not-false}
 use lib.ListN.{drop, length-drop}
 use lib.Seq.{slice}
-use borrow.Author.Rules.{rules}
 use Rattle.xml.specs.UsedNames.{until-fits}
 use Rattle.xml.specs.NextPart.{nearer-before, nearer-alone, nearer-this, nearer-best}
 use Rattle.xml.proofs.tag.nearer.Goals as goal

@@ -1,11 +1,8 @@
 -- `xml::tag::next_part` meets its contract: of the attributes before the place i, the nearest stands at `best`. Assumes nothing.
 use Prim.Native.Nat.{◌-◌}
-use mathlib.Core.Path.{refl, sym, subst}
-use native.Mathlib.Omega.{arith}
 use lib.ListN.{length}
 use lib.Seq.{slice}
-use Rattle.xml.specs.TagPlaces.{PartIn, part_in}
-use Rattle.xml.specs.NextPart.{Seeking, seeking-start, seeking-next, seeking-end}
+use Rattle.xml.specs.NextPart.{Seeking}
 use Rattle.xml.proofs.tag.next_part.Given as goal
 
 abbrev pub invariant-loop-i : goal.invariant-loop-i

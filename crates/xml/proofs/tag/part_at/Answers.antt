@@ -1,5 +1,4 @@
 -- `xml::tag::part_at` meets its contract: `=` and the closing quote are found byte by byte. Assumes nothing.
-use borrow.Author.Rules.{rules}
 use Rattle.xml.specs.TagPlaces.{part-is}
 use Rattle.xml.proofs.tag.part_at.Goals as goal
 

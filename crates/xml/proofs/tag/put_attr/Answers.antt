@@ -2,7 +2,6 @@
 use Prim.Native.Nat.{◌+◌, ◌^◌, ◌<◌}
 use native.Mathlib.Omega.{arith}
 use lib.Seq.{slice, length-slice}
-use borrow.Author.Rules.{rules}
 use Rattle.xml.specs.OverLaws.{wrote_then}
 use Rattle.xml.specs.TagWritten.{part-text, length-quoted}
 use Rattle.xml.proofs.tag.put_attr.Goals as goal

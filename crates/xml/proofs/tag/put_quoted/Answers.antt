@@ -1,5 +1,4 @@
 -- `xml::tag::put_quoted` meets its contract, for each byte that is an entity, and any other. Assumes nothing.
-use borrow.Author.Rules.{rules}
 use Rattle.xml.specs.Bytes.{bytes}
 use Rattle.xml.specs.TagWritten.{value-amp, value-lt, value-quot, value-one}
 use Rattle.xml.proofs.tag.put_quoted.Goals as goal

@@ -1,16 +1,13 @@
 -- `xml::tag::put_tag` meets its contract: of the attributes by ascending names, those from the place i on are left. Assumes nothing.
 use Prim.Native.Nat.{◌+◌, ◌^◌, ◌<◌}
 use mathlib.Core.Path.{ap, sym, ◌∙◌, subst}
-use mathlib.Core.List.{map}
 use native.Mathlib.Omega.{arith}
 use lib.ListN.{length}
 use lib.Seq.{take-length, length-slice}
-use Rattle.xml.specs.Tags.{attr_text, sort, parts}
-use Rattle.xml.specs.Read.{means}
+use Rattle.xml.specs.Tags.{attr_text}
 use Rattle.xml.specs.OverLaws.{length_at, wrote_then}
-use Rattle.xml.specs.WriteLaws.{Left, left-done}
-use Rattle.xml.specs.TagParts.{sorted_from}
-use Rattle.xml.specs.TagPlaces.{Reached, PartIn, part_in, tag-start}
+use Rattle.xml.specs.WriteLaws.{left-done}
+use Rattle.xml.specs.TagPlaces.{PartIn, part_in, tag-start}
 use Rattle.xml.specs.TagSums.{name-part}
 use Rattle.xml.specs.TagWritten.{bare-means, tag-text, sorted-over, sorted-less, writing_start, writing-next, writing-room}
 use Rattle.xml.proofs.tag.put_tag.Goals as goal

@@ -1,13 +1,11 @@
 -- `xml::tag::put_value` meets its contract: of the value, what stands before i is written, and the rest is left. Assumes nothing.
-use Prim.Native.Nat.{◌-◌, ◌≤◌}
 use mathlib.Core.Path.{◌≡◌, ap, sym, ◌∙◌, subst}
 use native.Mathlib.Omega.{arith}
 use lib.ListN.{length}
 use lib.Seq.{slice, length-slice}
 use Rattle.xml.specs.OverLaws.{length_at}
 use Rattle.xml.specs.SignLaws.{Meant, sign-means}
-use Rattle.xml.specs.WriteLaws.{Left, left-none, left-done, left-place}
-use Rattle.xml.specs.TagParts.{quoted}
+use Rattle.xml.specs.WriteLaws.{left-none, left-done, left-place}
 use Rattle.xml.specs.TagWritten.{quoted-over, length-quoted, left-value}
 use Rattle.xml.proofs.tag.put_value.Goals as goal
 

@@ -1,14 +1,8 @@
 -- `xml::tag::put_value` meets its contract: of the value, what stands before i is written, and the rest is left. Assumes nothing.
 use Prim.Native.Nat.{◌-◌, ◌≤◌}
-use mathlib.Core.Path.{◌≡◌, ap, sym, ◌∙◌, subst}
-use native.Mathlib.Omega.{arith}
-use lib.ListN.{length}
-use lib.Seq.{slice, length-slice}
-use Rattle.xml.specs.OverLaws.{length_at}
-use Rattle.xml.specs.SignLaws.{Meant, sign-means}
-use Rattle.xml.specs.WriteLaws.{Left, left-none, left-done, left-place}
+use lib.Seq.{slice}
+use Rattle.xml.specs.WriteLaws.{Left}
 use Rattle.xml.specs.TagParts.{quoted}
-use Rattle.xml.specs.TagWritten.{quoted-over, length-quoted, left-value}
 use Rattle.xml.proofs.tag.put_value.Given as goal
 
 abbrev pub invariant-loop-i : goal.invariant-loop-i

@@ -1,13 +1,7 @@
 -- `xml::tag::same_attrs` meets its contract: the attributes passed mean the same (TagSame). Assumes nothing.
-use Prim.Native.Nat.{◌<◌}
-use mathlib.Core.Path.{sym, ◌∙◌, subst}
-use native.Mathlib.Omega.{arith}
-use borrow.Author.Tests.{not-true, not-false}
 use lib.ListN.{length}
 use Rattle.xml.specs.TagParts.{sorted_from}
-use Rattle.xml.specs.TagPlaces.{PartIn, part_in}
-use Rattle.xml.specs.TagWritten.{sorted-less}
-use Rattle.xml.specs.TagSame.{Comparing, comparing-start, comparing-short, comparing-other, comparing-next, comparing-end}
+use Rattle.xml.specs.TagSame.{Comparing}
 use Rattle.xml.proofs.tag.same_attrs.Given as goal
 
 abbrev pub invariant-loop-i : goal.invariant-loop-i

@@ -1,7 +1,5 @@
 -- `xml::tag::same_parts` meets its contract: a law for each return. Assumes nothing.
 use mathlib.Core.Path.{sym, ◌∙◌}
-use borrow.Author.Tests.{not-true, not-false}
-use borrow.Author.Rules.{rules}
 use Rattle.xml.specs.TagSame.{alike-other, alike-named}
 use Rattle.xml.proofs.tag.same_parts.Goals as goal
 

@@ -1,9 +1,7 @@
 -- `xml::tag::same_tags` meets its contract: a law for each return (TagSame). Assumes nothing.
 use mathlib.Core.Path.{◌≡◌, ap₂, sym, ◌∙◌}
 use native.Mathlib.Omega.{arith}
-use borrow.Author.Tests.{not-true, not-false}
 use lib.Seq.{take-length}
-use borrow.Author.Rules.{rules}
 use Rattle.xml.specs.Bytes.{same}
 use Rattle.xml.specs.Tags.{name_of}
 use Rattle.xml.specs.TagPlaces.{tag-start}
@@ -28,11 +26,11 @@ returns-then-is_bare-2 c =
 
 pub same_bytes-requires-2 : goal.same_bytes-requires-2
 same_bytes-requires-2 c = record {
-      le₁ = omega arith;
-      in₁ = omega (arith, (tag-start c.requires.0).inside, c.name_end.ensures);
-      le₂ = omega arith;
-      in₂ = omega (arith, (tag-start c.requires.2).inside, c.name_end-2.ensures);
-    }
+  le₁ = omega arith;
+  in₁ = omega (arith, (tag-start c.requires.0).inside, c.name_end.ensures);
+  le₂ = omega arith;
+  in₂ = omega (arith, (tag-start c.requires.2).inside, c.name_end-2.ensures);
+}
 
 pub returns-then-not-same_bytes : goal.returns-then-not-same_bytes
 returns-then-not-same_bytes c =

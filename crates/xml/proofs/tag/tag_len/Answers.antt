@@ -2,11 +2,8 @@
 use Prim.Native.Nat.{◌+◌, ◌-◌}
 use mathlib.Core.Path.{refl, sym, subst}
 use native.Mathlib.Omega.{arith}
-use lib.ListN.{length}
-use borrow.Author.Rules.{rules}
-use Rattle.xml.specs.Read.{tag_of}
 use Rattle.xml.specs.TagPlaces.{PartIn, part_in}
-use Rattle.xml.specs.TagSums.{Summed, summed-start, summed-next, summed-end, written, tag-long, part-written, part_room}
+use Rattle.xml.specs.TagSums.{summed-start, summed-next, summed-end, tag-long, part-written, part_room}
 use Rattle.xml.proofs.tag.tag_len.Goals as goal
 
 pub loop-i-init : goal.loop-i-init

@@ -1,12 +1,8 @@
 -- `xml::tag::tag_len` meets its contract: n bytes are written of what stands before the place i. Assumes nothing.
-use Prim.Native.Nat.{◌+◌, ◌-◌}
-use mathlib.Core.Path.{refl, sym, subst}
-use native.Mathlib.Omega.{arith}
+use Prim.Native.Nat.{◌-◌}
 use lib.ListN.{length}
-use borrow.Author.Rules.{rules}
 use Rattle.xml.specs.Read.{tag_of}
-use Rattle.xml.specs.TagPlaces.{PartIn, part_in}
-use Rattle.xml.specs.TagSums.{Summed, summed-start, summed-next, summed-end, written, tag-long, part-written, part_room}
+use Rattle.xml.specs.TagSums.{Summed, written}
 use Rattle.xml.proofs.tag.tag_len.Given as goal
 
 abbrev pub invariant-loop-i : goal.invariant-loop-i

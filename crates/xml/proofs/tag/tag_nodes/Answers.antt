@@ -2,7 +2,6 @@
 use Prim.Native.Nat.{◌+◌}
 use mathlib.Core.Path.{ap, sym, ◌∙◌}
 use native.Mathlib.Omega.{arith}
-use borrow.Author.Rules.{rules}
 use Rattle.xml.specs.Bytes.{bytes, same}
 use Rattle.xml.specs.TagPlaces.{tag-start}
 use Rattle.xml.specs.TagSums.{name-part, nodes-T, nodes-other, parts-few}

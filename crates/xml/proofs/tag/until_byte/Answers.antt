@@ -1,10 +1,7 @@
 -- `xml::tag::until_byte` meets its contract. The invariant: n bytes were passed, none of them c. Assumes nothing.
 use mathlib.Core.Path.{sym}
-use Prim.Native.Nat.{◌-◌}
 use native.Mathlib.Omega.{arith}
-use borrow.Author.Rules.{rules}
-use lib.ListN.{length}
-use Rattle.xml.specs.UsedNames.{Going, going_start, going-found, going_on, going-over}
+use Rattle.xml.specs.UsedNames.{going_start, going-found, going_on, going-over}
 use Rattle.xml.proofs.tag.until_byte.Goals as goal
 
 pub loop-n-init : goal.loop-n-init

@@ -1,6 +1,5 @@
 use Prim.Native.Nat.{◌*◌, ◌+◌}
 use native.Mathlib.Omega.{arith}
-use borrow.Author.Rules.{rules}
 use Rattle.xml.proofs.tape.view_at.Goals as goal
 
 -- src/view.rt:24:17

@@ -1,11 +1,9 @@
 -- `xml::text::has_marked` meets its contract. The invariant: where there was no hit, no byte passed is marked. Assumes nothing.
 use Prim.Native.Nat.{◌+◌, ◌-◌, ◌≤◌}
-use native.Mathlib.Omega.{arith}
-use mathlib.Core.Path.{◌≡◌, sym, ◌∙◌}
+use mathlib.Core.Path.{◌≡◌}
 use mathlib.Core.Bool.{false}
-use borrow.Author.Rules.{rules}
 use Rattle.xml.specs.Signs.{is_marked}
-use Rattle.xml.specs.Stretch.{Each, each_none, each_part, no_hit}
+use Rattle.xml.specs.Stretch.{Each}
 use Rattle.xml.proofs.text.has_marked.Given as goal
 
 abbrev pub invariant-loop-i : goal.invariant-loop-i

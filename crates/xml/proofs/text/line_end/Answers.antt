@@ -2,7 +2,6 @@
 use Prim.Native.Nat.{ℕ, ◌+◌}
 use mathlib.Core.Path.{sym, ◌∙◌, ap}
 use lib.Seq.{length-take-le}
-use borrow.Author.Rules.{rules}
 use Rattle.xml.specs.SignLaws.{return-joined, return-turned}
 use Rattle.xml.specs.declared.text.Sign.{Sign}
 use Rattle.xml.proofs.text.line_end.Goals as goal

@@ -1,9 +1,8 @@
 -- `xml::text::plain_blocks` meets its contract. The invariant: it holds of the place reached. Assumes nothing.
 use Prim.Native.Nat.{◌-◌}
-use native.Mathlib.Omega.{arith}
 use mathlib.Core.Bool.{false}
 use Rattle.xml.specs.Signs.{is_marked}
-use Rattle.xml.specs.Stretch.{Passed, passed_none, passed_then}
+use Rattle.xml.specs.Stretch.{Passed}
 use Rattle.xml.proofs.text.plain_blocks.Given as goal
 
 abbrev pub invariant-loop-j : goal.invariant-loop-j

@@ -1,8 +1,6 @@
 -- `xml::text::plain_bytes` meets its contract. The invariant: the bytes passed are written as they stand. Assumes nothing.
-use Prim.Native.Nat.{◌+◌, ◌-◌, ◌≤◌}
 use native.Mathlib.Omega.{arith}
 use mathlib.Core.Path.{◌≡◌, refl, sym, ◌∙◌}
-use borrow.Author.Rules.{rules}
 use lib.Seq.{slice}
 use Rattle.xml.specs.Signs.{plain_len}
 use Rattle.xml.specs.SignLaws.{plain-stop, plain_step, plain_over}

@@ -1,7 +1,6 @@
 -- `xml::text::plain_end` meets its contract: what the blocks pass over is written as it stands. Assumes nothing.
 use mathlib.Core.Path.{sym, ◌∙◌}
 use Rattle.xml.specs.Stretch.{plain-passed}
-use borrow.Author.Rules.{rules}
 use Rattle.xml.proofs.text.plain_end.Goals as goal
 
 pub returns : goal.returns

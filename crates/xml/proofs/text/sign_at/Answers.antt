@@ -4,7 +4,6 @@ use mathlib.Core.Path.{sym, ◌∙◌}
 use lib.Seq.{length-take-le}
 use Rattle.xml.specs.SignLaws.{sign-here, sign_line, sign-found, found_inside}
 use Rattle.xml.specs.declared.Found.TheVariants.{Hit}
-use borrow.Author.Rules.{rules}
 use Rattle.xml.proofs.text.sign_at.Goals as goal
 
 pub returns-then-b-eq13 : goal.returns-then-b-eq13

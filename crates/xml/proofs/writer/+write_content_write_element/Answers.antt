@@ -3,13 +3,12 @@
 use native.Mathlib.Omega.{arith}
 use mathlib.Core.Path.{ap, sym, ◌∙◌}
 use lib.ListN.{length}
-use borrow.Author.Rules.{rules}
-use Rattle.xml.specs.Forest.{Forest, write}
-use Rattle.xml.specs.Tape.{Tape, next_at}
+use Rattle.xml.specs.Forest.{write}
+use Rattle.xml.specs.Tape.{next_at}
 use Rattle.xml.specs.OverLaws.{length_at, wrote_then, lent_back}
 use Rattle.xml.specs.TapeLaws.{Front, OneRun, Rest, tape-room, front, inner-node, one-run, rest-none, rest_more, rest-done}
 use Rattle.xml.specs.WriteLaws.{Fit, fit-start, inner-fit, rest-fit, run-writes, text-writes}
-use Prim.Native.Nat.{ℕ, ◌+◌, ◌*◌, ◌-◌, ◌<◌, ◌≤◌}
+use Prim.Native.Nat.{◌+◌}
 use Rattle.xml.proofs.writer.+write_content_write_element.Goals as goal
 
 pub write_content-loop-p-init : goal.write_content-loop-p-init

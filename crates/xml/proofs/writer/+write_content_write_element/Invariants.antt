@@ -1,15 +1,9 @@
 -- `xml::writer::write_content` and `xml::writer::write_element` meet their contracts: they call each other, and the nodes that are left fall.
 -- Of the siblings, those before p are written, and the rest is left; an element writes into the part that it is lent. Assumes nothing.
-use native.Mathlib.Omega.{arith}
-use mathlib.Core.Path.{ap, sym, ◌∙◌}
-use lib.ListN.{length}
-use borrow.Author.Rules.{rules}
 use Rattle.xml.specs.Forest.{Forest, write}
 use Rattle.xml.specs.Tape.{Tape, next_at}
-use Rattle.xml.specs.OverLaws.{length_at, wrote_then, lent_back}
-use Rattle.xml.specs.TapeLaws.{Front, OneRun, Rest, tape-room, front, inner-node, one-run, rest-none, rest_more, rest-done}
-use Rattle.xml.specs.WriteLaws.{Fit, fit-start, inner-fit, rest-fit, run-writes, text-writes}
-use Prim.Native.Nat.{ℕ, ◌+◌, ◌*◌, ◌-◌, ◌<◌, ◌≤◌}
+use Rattle.xml.specs.TapeLaws.{Rest}
+use Prim.Native.Nat.{◌+◌, ◌*◌, ◌-◌, ◌≤◌}
 use Rattle.xml.proofs.writer.+write_content_write_element.Given as goal
 
 abbrev pub decreases-write_content : goal.decreases-write_content

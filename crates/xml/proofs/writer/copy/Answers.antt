@@ -1,11 +1,10 @@
 -- `xml::writer::copy` meets its contract: so many bytes were copied. Assumes nothing.
-use Prim.Native.Nat.{◌+◌, ◌-◌, ◌≤◌}
+use Prim.Native.Nat.{◌+◌}
 use native.Mathlib.Nat.{add-zero}
 use native.Mathlib.Omega.{arith}
 use mathlib.Core.Path.{◌≡◌, ap, sym, ◌∙◌}
 use lib.ListN.{length}
-use lib.Seq.{slice, slice_empty}
-use Rattle.xml.specs.Over.{over_at}
+use lib.Seq.{slice_empty}
 use Rattle.xml.specs.OverLaws.{at-nil, length_at}
 use Rattle.xml.specs.WriteLaws.{part_step}
 use Rattle.xml.proofs.writer.copy.Goals as goal

@@ -1,8 +1,6 @@
 -- `xml::writer::put` meets its contract: a store, or nothing past the end. Assumes nothing.
-use borrow.Author.Rules.{rules}
 use mathlib.Core.Path.{◌≡◌, refl, ap, sym, ◌∙◌}
 use mathlib.Core.List.{[], ◌∷◌}
-use mathlib.Core.Logic.{⊎_elim}
 use lib.ListN.{length}
 use Rattle.xml.specs.Over.{over_at}
 use Rattle.xml.specs.OverLaws.{at_set, at-past, length_at}

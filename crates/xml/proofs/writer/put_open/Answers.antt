@@ -4,7 +4,6 @@ use lib.Seq.{length-slice}
 use Rattle.xml.specs.Bytes.{bytes}
 use Rattle.xml.specs.OverLaws.{wrote_then}
 use Rattle.xml.specs.TapeLaws.{opening}
-use borrow.Author.Rules.{rules}
 use Rattle.xml.proofs.writer.put_open.Goals as goal
 
 pub put_word-requires : goal.put_word-requires

@@ -3,7 +3,6 @@ use Prim.Native.Nat.{◌+◌}
 use mathlib.Core.Path.{ap, sym, ◌∙◌}
 use lib.Seq.{length-slice}
 use Rattle.xml.specs.WriteLaws.{part-done}
-use borrow.Author.Rules.{rules}
 use Rattle.xml.proofs.writer.put_part.Goals as goal
 
 pub returns : goal.returns

@@ -2,7 +2,6 @@
 use mathlib.Core.Path.{refl}
 use native.Mathlib.Nat.{zero-add}
 use lib.Seq.{take-length}
-use borrow.Author.Rules.{rules}
 use Rattle.xml.proofs.writer.put_word.Goals as goal
 
 pub returns-then-at-word : goal.returns-then-at-word

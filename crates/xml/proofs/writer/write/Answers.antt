@@ -2,7 +2,6 @@
 use native.Mathlib.Omega.{arith}
 use Rattle.xml.specs.WriteLaws.{valid-fit}
 use Rattle.xml.specs.OverLaws.{wrote-over}
-use borrow.Author.Rules.{rules}
 use Rattle.xml.proofs.writer.write.Goals as goal
 
 pub write_content-requires : goal.write_content-requires

@@ -1,6 +1,5 @@
 -- `xml::writer::write_at` meets its contract: there is room for the place after the content. Assumes nothing.
 use Rattle.xml.specs.WriteLaws.{valid-fit}
-use borrow.Author.Rules.{rules}
 use Rattle.xml.proofs.writer.write_at.Goals as goal
 
 pub write_content-requires : goal.write_content-requires

@@ -1,7 +1,6 @@
 -- `timestamp::text::Span::step` meets its contract. A digit after a number below 100 makes one below 1000.
 use native.Mathlib.Omega.{arith}
 use mathlib.Core.Path.{sym, ◌∙◌}
-use borrow.Author.Rules.{rules}
 use Rattle.timestamp.specs.TimesLaws.{digit_low, digit-high}
 use Rattle.timestamp.specs.Belongs.{dash-done, digit-done}
 use Rattle.timestamp.proofs.text.Span.step.Goals as goal
