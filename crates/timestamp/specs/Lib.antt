@@ -26,5 +26,4 @@ pub mod Change
 pub mod Cut
 pub mod Longest
 pub mod Lengths
-pub mod LongestLaws
 pub mod Samples

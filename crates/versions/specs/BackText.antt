@@ -14,7 +14,7 @@ use Rattle.xml.specs.TapeLaws.{bytes_at, opening, closing, inner-node, length-wr
 use Rattle.timestamp.specs.Times.{Times, same_times, write_times, always}
 use Rattle.timestamp.specs.Set.{same_set, is_none, up_to}
 use Rattle.timestamp.specs.Listed.{listed, text_of, Only, same-listed, text-listed, text-up-to, listed-up-to}
-use Rattle.timestamp.specs.LongestLaws.{text-short}
+use Rattle.timestamp.proofs.LongestLaws.{text-short}
 use Rattle.versions.specs.Walk.{times_in, ever, back_in, back_forest, inside_of}
 use Rattle.versions.specs.ListedLaws.{ever-listed}
 use Rattle.versions.specs.Sizes.{write-join}

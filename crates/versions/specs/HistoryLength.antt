@@ -17,7 +17,7 @@ use Rattle.keys.specs.Version.{Label, parsed}
 use Rattle.keys.specs.Address.{address, holds}
 use Rattle.timestamp.specs.Times.{Times, write_times}
 use Rattle.timestamp.specs.Longest.{LongestText, longest}
-use Rattle.timestamp.specs.LongestLaws.{longest-length, longest-text, longest-999, times-short}
+use Rattle.timestamp.proofs.LongestLaws.{longest-length, longest-text, longest-999, times-short}
 use Rattle.versions.specs.Archive.{archive_of, Versions, empty, more, versions_from, last_version, archive_text}
 use Rattle.versions.specs.LegalLaws.{all-legal, read_back, archive-legal}
 use Rattle.versions.specs.Calls.{answer, room, at_most, give, history, longest_history, calls_compute}

@@ -25,7 +25,7 @@ use Rattle.keys.specs.Address.{address, holds}
 use Rattle.timestamp.specs.Times.{Times, write_times}
 use Rattle.timestamp.specs.TimesLaws.{times-bytes}
 use Rattle.timestamp.specs.Longest.{longest}
-use Rattle.timestamp.specs.LongestLaws.{longest-length}
+use Rattle.timestamp.proofs.LongestLaws.{longest-length}
 use Rattle.marks.specs.declared.Mark.{Mark}
 use Rattle.marks.specs.Marks.{Named, marks_in, legal_name, find}
 use Rattle.versions.specs.Archive.{archive, archive_of, Legal, versions_from, last_version, archive_text}

@@ -13,7 +13,7 @@ use Rattle.timestamp.specs.Times.{Times, always, only_after, write_times}
 use Rattle.timestamp.specs.Set.{set_of, empty_set, adding, up_to, subset}
 use Rattle.timestamp.specs.Tests.{subset-tells}
 use Rattle.timestamp.specs.Listed.{listed, Only, text_of, listed-adding, listed-newest, listed-up-to, only-adding, only_none, only-up-to, text-listed, text-up-to}
-use Rattle.timestamp.specs.LongestLaws.{text-short}
+use Rattle.timestamp.proofs.LongestLaws.{text-short}
 use Rattle.timestamp.specs.Parse.{Outcome, refused, accepted, parsed}
 use Rattle.timestamp.specs.Parses.{text-parse}
 use Rattle.timestamp.specs.Place.{IsSetTo}

@@ -19,7 +19,7 @@ use Rattle.timestamp.specs.Set.{empty_set, up_to, cut_at, same_set, is_none}
 use Rattle.timestamp.specs.Tests.{same-tells, same-told}
 use Rattle.timestamp.specs.Listed.{listed, text_of, Only, only-cut, only-more, only-up-to, listed-inj, listed-cong, listed-up-to, text-inj, text-none}
 use Rattle.timestamp.specs.Parses.{text-parse, text-some}
-use Rattle.timestamp.specs.LongestLaws.{text-short}
+use Rattle.timestamp.proofs.LongestLaws.{text-short}
 use Rattle.timestamp.specs.Write.{decimal-short}
 use Rattle.timestamp.specs.Place.{IsSet}
 use Rattle.timestamp.specs.Change.{Changes, tail_text}

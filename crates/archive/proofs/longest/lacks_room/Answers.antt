@@ -7,7 +7,7 @@ use borrow.Author.Tests.{le-ltb}
 use Rattle.xml.specs.OverLaws.{wrote-over}
 use Rattle.timestamp.specs.Times.{write_times}
 use Rattle.timestamp.specs.Longest.{longest}
-use Rattle.timestamp.specs.LongestLaws.{longest-length, times-short}
+use Rattle.timestamp.proofs.LongestLaws.{longest-length, times-short}
 use Rattle.archive.proofs.longest.lacks_room.Goals as goal
 
 pub returns-then-size-ge2591 : goal.returns-then-size-ge2591

@@ -1,5 +1,5 @@
 -- Each turn of the loop takes one digit, and its ends are those of the definition.
-use Rattle.std.proofs.Common.{rules, arith, ◌+◌, ◌*◌, ◌≤◌, ◌<◌, ◌≡◌, min, drop, sym, ◌∙◌, ap, subst}
+use Rattle.std.proofs.Common.{rules, arith, ◌+◌, ◌*◌, ◌≤◌, ◌<◌, min, drop, sym, ◌∙◌, ap, subst}
 use Rattle.station.specs.Number.{number_from, number-empty, number-start, number-end, number-stop, number_step}
 use Rattle.station.proofs.number.number.Goals as goal
 
@@ -18,7 +18,7 @@ loop-i-preserved c = (
   search rules,
   omega (arith, c.least-value.ensures),
   (ap (λ k. number_from k (drop (c.loop-i.i + 1) c.args.word.now))
-       (c.least-value.ensures ∙ ap (λ d. min (c.loop-i.value * 10 + d) 1000) c.digit-d.ensures.0)
+      (c.least-value.ensures ∙ ap (λ d. min (c.loop-i.value * 10 + d) 1000) c.digit-d.ensures.0)
       ∙ sym (number_step c.args.word.now c.loop-i.value c.loop-i.i (search rules) (subst (λ d. d ≤ 9) c.digit-d.ensures.0 c.if-d-gt9.false)))
       ∙ c.loop-i.invariant.2,
 )

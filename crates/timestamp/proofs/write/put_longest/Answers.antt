@@ -7,7 +7,7 @@ use Rattle.xml.specs.Over.{Wrote}
 use Rattle.xml.specs.OverLaws.{length_at}
 use Rattle.timestamp.specs.Times.{write_times}
 use Rattle.timestamp.specs.Longest.{longest}
-use Rattle.timestamp.specs.LongestLaws.{longest-length, times-short, written-first, written_none, written-pair, written-whole}
+use Rattle.timestamp.proofs.LongestLaws.{longest-length, times-short, written-first, written_none, written-pair, written-whole}
 use Rattle.timestamp.proofs.write.put_longest.Goals as goal
 
 pub put_up_to-to-requires : goal.put_up_to-to-requires

@@ -1,7 +1,7 @@
 -- `timestamp::write::put_longest` meets its contract. The loop's invariant: the text over 1 to k is written, and k is n less a multiple of three.
 use Prim.Native.Nat.{◌-◌, ◌%◌, ◌≤◌}
 use mathlib.Core.Path.{◌≡◌}
-use Rattle.timestamp.specs.LongestLaws.{LongestWritten}
+use Rattle.timestamp.proofs.LongestLaws.{LongestWritten}
 use Rattle.timestamp.proofs.write.put_longest.Given as goal
 
 abbrev pub invariant-loop-k : goal.invariant-loop-k

@@ -2,7 +2,7 @@
 use native.Mathlib.Omega.{arith}
 use Rattle.xml.specs.Bytes.{bytes}
 use Rattle.timestamp.specs.Set.{set_of}
-use Rattle.timestamp.specs.LongestLaws.{text-short}
+use Rattle.timestamp.proofs.LongestLaws.{text-short}
 use Rattle.versions.specs.TimedLaws.{wrote-times}
 use Rattle.walks.proofs.timed.put_times.Goals as goal
 
