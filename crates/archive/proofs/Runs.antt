@@ -5,10 +5,11 @@ use lib.ListN.{length}
 use Rattle.xml.specs.Bytes.{Bytes}
 use Rattle.keys.specs.Result.{ok}
 use Rattle.keys.specs.KeyList.{KeyList, key_list}
-use Rattle.versions.specs.MarkLaws.{find-nothing}
+use Rattle.versions.proofs.MarkLaws.{find-nothing}
 use Rattle.archive.specs.Giving.{ends-told, marked-told}
 use Rattle.archive.specs.MarkCalls.{SetEnds, FindEnds, BackEnds, NamedEnds}
-use Rattle.archive.specs.Runs.{ExitsOf, Saying, WalkedExits, Tied, Code, CodeStanding, code-standing}
+use Rattle.archive.specs.Runs.{ExitsOf, Saying, WalkedExits, Tied, Code, CodeStanding}
+use Rattle.archive.proofs.CodeStanding.{code-standing}
 use Rattle.archive.proofs.found.found.Kinds as found-kinds
 use Rattle.archive.proofs.found.found.Reads as found-reads
 use Rattle.archive.proofs.add.add_version.Kinds as add-kinds

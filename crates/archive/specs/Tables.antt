@@ -7,8 +7,8 @@ use Rattle.xml.specs.Truth.{by-test}
 use Rattle.marks.specs.Marks.{entries, table_bytes, table_in, marks_compute}
 use Rattle.marks.specs.Promises.{table-back}
 use Rattle.versions.specs.Calls.{Marked, set_mark, find_mark, step_back, step_back_to_mark, table_left}
-use Rattle.versions.specs.CallLaws.{back-kept, back-to-mark-kept, set-kept}
-use Rattle.versions.specs.MarkLaws.{LeavesMarks, back-leaves, back-to-mark-leaves, set-leaves, find-nothing}
+use Rattle.versions.proofs.CallsKept.{back-kept, back-to-mark-kept, set-kept}
+use Rattle.versions.proofs.MarkLaws.{LeavesMarks, back-leaves, back-to-mark-leaves, set-leaves, find-nothing}
 use Rattle.archive.specs.Giving.{ToldMarked}
 use Rattle.archive.specs.Entries.{ToldTable, ToldFound}
 use Rattle.archive.specs.Runs.{Returns}

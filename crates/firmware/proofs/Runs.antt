@@ -5,7 +5,8 @@ use Rattle.xml.specs.Bytes.{Bytes}
 use Rattle.keys.specs.Result.{ok}
 use Rattle.keys.specs.KeyList.{KeyList, key_list}
 use Rattle.marks.specs.Marks.{table_in}
-use Rattle.archive.specs.Runs.{ExitsOf, Code, CodeStanding, code-standing}
+use Rattle.archive.specs.Runs.{ExitsOf, Code, CodeStanding}
+use Rattle.archive.proofs.CodeStanding.{code-standing}
 use Rattle.archive.specs.Tables.{back-told, back-to-mark-told, set_told, find-told}
 use Rattle.firmware.proofs.archive_found.Kinds as found-kinds
 use Rattle.firmware.proofs.archive_found.Reads as found-reads

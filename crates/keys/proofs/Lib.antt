@@ -17,3 +17,6 @@ pub mod LineParts
 pub mod ContextLaws
 pub mod AddLine
 pub mod LoadWhole
+pub mod AlikeLaws
+pub mod AlikeKept
+pub mod AlikeSamples

@@ -77,6 +77,3 @@ pub mod AddressLoop
 pub mod SameStep
 pub mod Alike
 pub mod KeyTallies
-pub mod AlikeLaws
-pub mod AlikeKept
-pub mod AlikeSamples

@@ -7,7 +7,7 @@ use Rattle.std.proofs.Math.Seq.{slice, slice-cons, slice_empty, length-slice}
 use borrow.Author.Tests.{le-leb, lt-leb, eqb-true, eqb-false}
 use Rattle.xml.specs.Bytes.{Bytes, bytes, all, is_name_byte, is_value, bytes_compute}
 use Rattle.xml.specs.GrammarLaws.{unescape-plain, unescape-joined, unescape-turned}
-use Rattle.xml.specs.Lines.{name-feed}
+use Rattle.xml.proofs.Lines.{name-feed}
 use Rattle.xml.specs.NeatWritten.{name-return}
 use Rattle.xml.specs.Read.{common, further, try, entity_at, unescape}
 use Rattle.xml.specs.Truth.{clash, bool_by, by-test, and_left, and_right}

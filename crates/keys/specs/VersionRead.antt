@@ -11,8 +11,8 @@ use Rattle.xml.specs.Sound.{read-sound}
 use Rattle.xml.specs.Complete.{read-complete}
 use Rattle.xml.specs.RoundTrip.{read-write, read-tidy}
 use Rattle.xml.specs.CompareLaws.{all-black}
-use Rattle.xml.specs.Lines.{white-lines}
-use Rattle.xml.specs.LinePlaces.{in_received, read-received}
+use Rattle.xml.proofs.Lines.{white-lines}
+use Rattle.xml.proofs.LinePlaces.{in_received, read-received}
 use Rattle.xml.specs.Truth.{clash, by-test}
 use Rattle.keys.specs.Version.{VersionSpells, rooted, vacant, parsed, read_version}
 use Rattle.keys.specs.Legal.{RootOrNone}

@@ -4,7 +4,7 @@ use Rattle.std.proofs.Common.{sym, ◌∙◌, ap, subst}
 use Rattle.xml.specs.Bytes.{Bytes, all, is_white, is_name, line_ends}
 use Rattle.xml.specs.Forest.{Forest, end, elem, text, stamp, write, NotText, Tidy}
 use Rattle.xml.specs.Read.{Outcome, whole, broken}
-use Rattle.xml.specs.Lines.{write-lines, lines-no-return, no-return-self}
+use Rattle.xml.proofs.Lines.{write-lines, lines-no-return, no-return-self}
 use Rattle.keys.specs.Result.{ok, r6, r7, r8, r9}
 use Rattle.keys.specs.KeyList.{Path, KeyList, above}
 use Rattle.keys.specs.Version.{◌▸◌, drop_white, too_large, misplaced, unkeyed, doubled, insert_by, ordered, parsed, read_version, version}

@@ -176,11 +176,6 @@ unfolding marked answer
 marked-ok table (ok g) h = (g, refl)
 marked-ok table (refused n) h = absurd (omega (arith, number_of-pos n))
 
-marked-kept : (table : List Mark) (x : Result Given) → ((marked table x).answer.number ≡ 0 → ⊥) → (marked table x).table ≡ table
-unfolding marked answer
-marked-kept table (ok g) h = absurd (h refl)
-marked-kept table (refused n) h = refl
-
 found-mark-ok : (x : Result Named) → (found_mark x).answer.number ≡ 0 → (k : Named) × (x ≡ ok k)
 unfolding found_mark answer
 found-mark-ok (ok k) h = (k, refl)
@@ -266,29 +261,14 @@ module _ (keys : Bytes) (K : KeyList) (k : key_list keys ≡ ok K) (archive : By
     unfolding step_back_to_mark step_back
     held-name name x out work l f = rw (k, a, m, l, f) refl
 
--- refused, they leave the table that was lent: "Every refusal, of whatever number, leaves output and marks untouched."
-module _ (keys archive : Bytes) (table : List Mark) (out work : ℕ) where
-  pub back-kept : (i : ℕ) → ((step_back keys archive table i out work).answer.number ≡ 0 → ⊥) → (step_back keys archive table i out work).table ≡ table
-  unfolding step_back
-  back-kept i h = marked-kept table _ h
-
-  pub back-to-mark-kept : (name : Bytes) → ((step_back_to_mark keys archive table name out work).answer.number ≡ 0 → ⊥) → (step_back_to_mark keys archive table name out work).table ≡ table
-  unfolding step_back_to_mark
-  back-to-mark-kept name h = marked-kept table _ h
-
-pub set-kept : (keys archive : Bytes) (table : List Mark) (name : Bytes) (i work : ℕ) → ((set_mark keys archive table name i work).answer.number ≡ 0 → ⊥)
-    → (set_mark keys archive table name i work).table ≡ table
-unfolding set_mark
-set-kept keys archive table name i work h = marked-kept table _ h
-
 -- ---- "By name it must equal stepping back by that mark's number"
 -- where x finds, z steps back by that number; where x is refused, z is, under the same number
-abbrev Numbered : Result Named → (ℕ → Result Given) → Result Given → Type 0
+abbrev pub Numbered : Result Named → (ℕ → Result Given) → Result Given → Type 0
 Numbered (refused n) y z = z ≡ refused n
 Numbered (ok k) y z = z ≡ y k.version
 
-record ByNumber (x : Result Named) (y : ℕ → Result Given) (z : Result Given) : Type 0 where
-  numbered : Numbered x y z
+pub record ByNumber (x : Result Named) (y : ℕ → Result Given) (z : Result Given) : Type 0 where
+  pub numbered : Numbered x y z
 
 number-then : (r : Result (Unit {0})) {x : Result Named} {y : ℕ → Result Given} {z : Result Given} → ByNumber x y z → ByNumber (r >> x) (λ v. r >> y v) (r >> z)
 number-then (refused n) h = record { numbered = refl }
@@ -315,15 +295,9 @@ module _ (table : List Mark) where
   number_same (refused n) y z h e = absurd (omega (arith, number_of-pos n))
   number_same (ok k) y z h e = ap (marked table) h.numbered
 
-  number-refused : (x : Result Named) (y : ℕ → Result Given) (z : Result Given) → ByNumber x y z → ((found_mark x).answer.number ≡ 0 → ⊥)
-      → marked table z ≡ record { answer = (found_mark x).answer; table = table }
-  unfolding found_mark answer marked
-  number-refused (refused n) y z h e = ap (marked table) h.numbered
-  number-refused (ok k) y z h e = absurd (e refl)
-
 module _ (keys archive : Bytes) (table : List Mark) (name : Bytes) (out work : ℕ) where
   -- the three calls' blocks
-  by_number : ByNumber
+  pub by_number : ByNumber
       (room work >> (at_most 4096 keys >> (at_most 32768 archive >> (key_list keys >>= (λ K. archive_text K archive >>= (λ vs. finding (length vs) table name))))))
       (λ v. room work >> (at_most 4096 keys >> (at_most 32768 archive >> (key_list keys >>= (λ K. archive_text K archive
       >>= (λ vs. marks_in (length vs) table >>= (λ ks. earlier K vs ks v out)))))))
@@ -340,9 +314,3 @@ module _ (keys archive : Bytes) (table : List Mark) (name : Bytes) (out work : �
       → step_back_to_mark keys archive table name out work ≡ step_back keys archive table (find_mark keys archive table name work).version out work
   unfolding find_mark step_back step_back_to_mark
   by_name e = number_same table _ _ _ by_number e
-
-  -- where it is not, it is refused under the same number, and changes nothing
-  pub by-no-name : ((find_mark keys archive table name work).answer.number ≡ 0 → ⊥)
-      → step_back_to_mark keys archive table name out work ≡ record { answer = (find_mark keys archive table name work).answer; table = table }
-  unfolding find_mark step_back step_back_to_mark
-  by-no-name e = number-refused table _ _ _ by_number e

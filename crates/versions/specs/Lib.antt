@@ -53,11 +53,9 @@ pub mod Rendered
 pub mod VersionText
 pub mod Timely
 pub mod BackText
-pub mod Standing
 pub mod Vacant
 pub mod LineEnds
 pub mod HistoryLength
-pub mod MarkLaws
 pub mod LegalKeys
 pub mod LegalTimes
 pub mod LegalSteps

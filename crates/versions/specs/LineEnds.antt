@@ -12,7 +12,7 @@ use Rattle.xml.specs.Forest.{Forest, write, nodes}
 use Rattle.xml.specs.Read.{read}
 use Rattle.xml.specs.Neat.{count}
 use Rattle.xml.specs.NeatWritten.{times-counts, signs-returns}
-use Rattle.xml.specs.Lines.{write-returns}
+use Rattle.xml.proofs.Lines.{write-returns}
 use Rattle.xml.specs.Truth.{by-test, both_true}
 use Rattle.model.specs.Gather.{All, all_snoc, all_take}
 use Rattle.keys.specs.Result.{Result, refused, ok, ◌>>=◌, ◌>>◌, refuse, refused_as, r10, r11, r14}

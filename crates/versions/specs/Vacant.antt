@@ -9,7 +9,7 @@ use Rattle.std.proofs.lemmas.List.{length-replicate}
 use Rattle.xml.specs.Bytes.{Bytes, all, is_white, line_ends}
 use Rattle.xml.specs.Forest.{Forest, end, elem, text, stamp, write, nodes, depth, Tidy, Root}
 use Rattle.xml.specs.Read.{is_end}
-use Rattle.xml.specs.Lines.{white-lines}
+use Rattle.xml.proofs.Lines.{white-lines}
 use Rattle.xml.specs.RoundTrip.{read-tidy}
 use Rattle.xml.specs.Truth.{clash, by-test, bool_by}
 use Rattle.model.specs.Gather.{gather}

@@ -4,3 +4,5 @@ pub mod Steps
 pub mod Turns
 pub mod Closes
 pub mod TextRuns
+pub mod Lines
+pub mod LinePlaces

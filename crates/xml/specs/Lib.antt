@@ -79,5 +79,3 @@ pub mod Canonical
 pub mod CanonicalLaws
 pub mod ByteTests
 pub mod Stretch
-pub mod Lines
-pub mod LinePlaces

@@ -14,7 +14,7 @@ use Rattle.xml.specs.Read.{Outcome, whole, broken, read}
 use Rattle.xml.specs.First.{first}
 use Rattle.xml.specs.Live.{alive, read-le}
 use Rattle.xml.specs.Truth.{by-test}
-use Rattle.xml.specs.Lines.{Line, off, join, turn, line, line-off, line-joined, line-turned, feed-return, feed-first, lines-append, lines-no-return, counted, no-return-lines, read-lines, read-raw}
+use Rattle.xml.proofs.Lines.{Line, off, join, turn, line, line-off, line-joined, line-turned, feed-return, feed-first, lines-append, lines-no-return, counted, no-return-lines, read-lines, read-raw}
 
 never : (p : ℕ) (f : Forest) → broken p ≡ whole f → ⊥
 never p f e = let z : ◌≡◌ {A = ℕ} 0 1 = cc in omega arith

@@ -10,7 +10,7 @@ use Rattle.keys.specs.KeyList.{KeyList, key_list}
 use Rattle.keys.specs.Version.{read_version, version, version_compute}
 use Rattle.keys.specs.VersionRead.{read_version-sound}
 use Rattle.keys.specs.Alike.{Alike, swapped, moved, inside, beyond, as_is, backwards, then, AnyOrder}
-use Rattle.keys.specs.AlikeKept.{any_order}
+use Rattle.keys.proofs.AlikeKept.{any_order}
 
 abbrev keys : Bytes
 keys = bytes "(/, (station, {}))\n(/station, (light, {}))\n(/station, (lamp, {pos}))\n(/station/lamp, (type, {}))\n(/station/lamp, (hours, {}))\n"

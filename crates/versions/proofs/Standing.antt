@@ -18,7 +18,7 @@ use Rattle.xml.specs.Truth.{bool_by, by-test, and_left, and_right, and_both}
 use Rattle.xml.specs.BytesLaws.{same-is}
 use Rattle.keys.specs.Versions.{version-legal, same_version}
 use Rattle.keys.specs.Alike.{EachInAnyOrder}
-use Rattle.keys.specs.AlikeKept.{any_order, any-order-all}
+use Rattle.keys.proofs.AlikeKept.{any_order, any-order-all}
 use Rattle.marks.specs.declared.Mark.{Mark}
 use Rattle.marks.specs.Marks.{Named, is_mark_name, in_range, is_mark, entries, marks_in, LegalMarks, legal_name, find, not_held, not_full, standing as in_versions, up_to, marks_compute}
 use Rattle.marks.specs.Promises.{marks-legal, legal-marks, legal-more, legal-set, legal-back}
@@ -26,7 +26,8 @@ use Rattle.versions.specs.LegalLaws.{all-legal, read_back}
 use Rattle.versions.specs.Adequate.{back-nodes}
 use Rattle.versions.specs.Archive.{archive_of, archive_text, Versions, empty, more}
 use Rattle.versions.specs.Calls.{answer, Given, Marked, marked, found_mark, find_mark, step_back, step_back_to_mark}
-use Rattle.versions.specs.CallLaws.{refuse-ok, found_ok, add_ok, back-ok, back-to-mark-ok, set-ok, find-ok, held-name, back-kept, back-to-mark-kept, set-kept, by_name, by-no-name, retrieve-ok, history-ok, storable-ok, not_full-ok}
+use Rattle.versions.specs.CallLaws.{refuse-ok, found_ok, add_ok, back-ok, back-to-mark-ok, set-ok, find-ok, held-name, by_name, retrieve-ok, history-ok, storable-ok, not_full-ok}
+use Rattle.versions.proofs.CallsKept.{back-kept, back-to-mark-kept, set-kept, by-no-name}
 use Rattle.versions.specs.Shelf.{Call, adding, back_to, back_to_mark, marking, Founding, Lent, Shelf, shelved_to, shelved_at, shelved, last_result, archive_after, call, hand_on, last_lent, versions_of, archive_of_shelf, lent_of_shelf, shelf_after, founded_lent, result, founded_shelf, shelf_of, shelf_texts, shelf_marks, standing, looked_for, Kept, SameVersions, SameShelf, Agree, AgreeMarked, Founded, Unrefused, NoneRefused, Adds, no_more, and-more, VersionsStanding}
 
 module _ (K : KeyList) where

@@ -19,7 +19,7 @@ use Rattle.keys.specs.SortedKept.{find-elem}
 use Rattle.keys.specs.SortedKeys.{keyed-kids, keyed-rest, sorted-label}
 use Rattle.keys.specs.SortedOnce.{single-here, single-kids, single-rest}
 use Rattle.keys.specs.SiblingLaws.{insert-swap}
-use Rattle.keys.specs.AlikeLaws.{front-alike, large-alike, misplaced-alike, unkeyed-alike, doubled-alike}
+use Rattle.keys.proofs.AlikeLaws.{front-alike, large-alike, misplaced-alike, unkeyed-alike, doubled-alike}
 
 -- what is kept of a forest in an element of path p
 abbrev kept : KeyList → Path → Forest → Forest

@@ -15,7 +15,7 @@ use Rattle.versions.specs.Archive.{archive_text}
 use Rattle.versions.specs.LegalLaws.{archive-legal}
 use Rattle.versions.specs.Calls.{answer, Given, Marked, marked, found_mark, room, at_most, set_mark, find_mark, earlier, step_back, step_back_to_mark}
 use Rattle.versions.specs.CallLaws.{marked-ok, then_ok, back-ok, back-to-mark-ok, set-ok}
-use Rattle.versions.specs.Standing.{set-lawful}
+use Rattle.versions.proofs.Standing.{set-lawful}
 
 -- the marks of a table are legal
 read-legal : (n : ℕ) (table : List Mark) (ks : List Named) → marks_in n table ≡ ok ks → LegalMarks n ks

@@ -1,0 +1,3 @@
+pub mod CallsKept
+pub mod Standing
+pub mod MarkLaws
