@@ -6,32 +6,20 @@ use Rattle.std.proofs.Math.Bool.{true, false}
 use mathlib.Core.List.{List, [], ◌∷◌, ◌++◌, map, append-nil, append_assoc}
 use Rattle.std.proofs.Math.Dec.{eqb}
 use Rattle.std.proofs.Math.Seq.{take-append_seam}
-use seplogic.Ra.Ura.{Ura}
-use base.Logic.{SProp}
-use prog.Memory.{Memory}
-use prog.Routine.{Routine}
-use types.Logic.{Logic}
-use contract.Lifetimes.{Lfts}
-use contract.Monad.{Fun, fact}
-use denote.Triple.Entry.{Args, Res}
-use denote.Triple.Clauses.{Ended, AtExit, Clauses}
-use borrow.Fn.Kinds.{ParamKind, ResultKind, Out, Dens, res_t, ended_of}
 use Rattle.xml.specs.Bytes.{Bytes, keep}
 use Rattle.xml.specs.Truth.{by-test}
 use Rattle.xml.specs.Forest.{Forest, write}
 use Rattle.keys.specs.Result.{ok}
 use Rattle.keys.specs.KeyList.{KeyList, key_list}
-use Rattle.keys.specs.Version.{Label}
-use Rattle.keys.specs.Address.{address, holds}
+use Rattle.keys.specs.Address.{holds}
 use Rattle.keys.specs.Alike.{EachInAnyOrder}
 use Rattle.timestamp.specs.Times.{write_times}
 use Rattle.marks.specs.declared.Mark.{Mark}
-use Rattle.marks.specs.Marks.{Named, LegalMarks, entries, find, up_to}
+use Rattle.marks.specs.Marks.{LegalMarks, entries, find, up_to}
 use Rattle.versions.specs.Archive.{archive_of}
-use Rattle.versions.specs.Calls.{Answer, Marked, FoundMark, found, add, retrieve, history, set_mark, find_mark, step_back, step_back_to_mark, version_at, out_after}
-use Rattle.versions.specs.Shelf.{Call, adding, back_to, back_to_mark, marking, Founding, Lent, Shelf, shelved_to, shelved_at, shelved, last_result, archive_after, call, hand_on, last_lent, versions_of, lent_of_shelf, shelf_after, founded_lent, result, founded_shelf, shelf_of as shelf_of_list, standing, SameVersions, Founded}
+use Rattle.versions.specs.Calls.{Answer, Marked, FoundMark, found, add, retrieve, history, find_mark, step_back, step_back_to_mark, version_at, out_after}
+use Rattle.versions.specs.Shelf.{Call, Founding, Lent, Shelf, shelved_to, shelved_at, shelved, last_result, archive_after, call, hand_on, last_lent, versions_of, lent_of_shelf, shelf_after, founded_lent, result, founded_shelf, shelf_of as shelf_of_list, standing, SameVersions, Founded}
 use Rattle.versions.proofs.Standing.{Held, step, refused-step, first, demand-3}
-use Rattle.archive.specs.Giving.{Told, ToldMarked}
 use Rattle.archive.specs.Runs.{Exit, given, Meets, MeetsMarked, Returns, Function, Stepping, Setting, Finding, Code, SameLent, SameExit, given_or, Step, adds, backs, names, marks, number_at, call_of, CalledWith, next, Follow, last_next, Adds, no_more, and-more, AddsAndBack, founded_with, Run, founded_from, lent_left, archive_left, table_left, shelf_from, shelf_of, standing_of, RunKept, RunsAgree, RunsAgreeMarked, CodeStanding}
 
 -- what a call gives is its answer's bytes

@@ -2,12 +2,9 @@
 -- set, each lent as its archive the bytes that the last unrefused add or step back left in its output, and as its table what the call
 -- before left there. Of each call nothing is known but what its contract says of its exit.
 use Rattle.std.specs.Prelude.{ℕ, ◌≡◌, length, take}
-use Rattle.std.proofs.Math.Path.{refl, sym, ap, subst}
-use Rattle.std.proofs.Common.{◌∙◌, ap₂, eq-eqb, eqb-true}
 use Rattle.std.proofs.Math.Bool.{true, false}
-use mathlib.Core.List.{List, [], ◌∷◌, ◌++◌, map, append-nil, append_assoc}
+use mathlib.Core.List.{List, [], ◌∷◌, ◌++◌, map}
 use Rattle.std.proofs.Math.Dec.{eqb}
-use Rattle.std.proofs.Math.Seq.{take-append_seam}
 use seplogic.Ra.Ura.{Ura}
 use base.Logic.{SProp}
 use prog.Memory.{Memory}
@@ -18,21 +15,19 @@ use contract.Monad.{Fun, fact}
 use denote.Triple.Entry.{Args, Res}
 use denote.Triple.Clauses.{Ended, AtExit, Clauses}
 use borrow.Fn.Kinds.{ParamKind, ResultKind, Out, Dens, res_t, ended_of}
-use Rattle.xml.specs.Bytes.{Bytes, keep}
-use Rattle.xml.specs.Truth.{by-test}
+use Rattle.xml.specs.Bytes.{Bytes}
 use Rattle.xml.specs.Forest.{Forest, write}
 use Rattle.keys.specs.Result.{ok}
-use Rattle.keys.specs.KeyList.{KeyList, key_list}
+use Rattle.keys.specs.KeyList.{KeyList}
 use Rattle.keys.specs.Version.{Label}
 use Rattle.keys.specs.Address.{address, holds}
 use Rattle.keys.specs.Alike.{EachInAnyOrder}
 use Rattle.timestamp.specs.Times.{write_times}
 use Rattle.marks.specs.declared.Mark.{Mark}
-use Rattle.marks.specs.Marks.{Named, LegalMarks, entries, find, up_to}
+use Rattle.marks.specs.Marks.{Named, LegalMarks, entries, find}
 use Rattle.versions.specs.Archive.{archive_of}
-use Rattle.versions.specs.Calls.{Answer, Marked, FoundMark, found, add, retrieve, history, set_mark, find_mark, step_back, step_back_to_mark, version_at, out_after}
-use Rattle.versions.specs.Shelf.{Call, adding, back_to, back_to_mark, marking, Founding, Lent, Shelf, shelved_to, shelved_at, shelved, last_result, archive_after, call, hand_on, last_lent, versions_of, lent_of_shelf, shelf_after, founded_lent, result, founded_shelf, shelf_of as shelf_of_list, standing, SameVersions, Founded}
-use Rattle.versions.proofs.Standing.{Held, step, refused-step, first, demand-3}
+use Rattle.versions.specs.Calls.{Answer, Marked, FoundMark, found, add, retrieve, history, set_mark, find_mark, step_back, step_back_to_mark, version_at}
+use Rattle.versions.specs.Shelf.{Call, adding, back_to, back_to_mark, marking, Lent, Shelf, shelved, versions_of, SameVersions}
 use Rattle.archive.specs.Giving.{Told, ToldMarked}
 
 -- ---- calls of the code

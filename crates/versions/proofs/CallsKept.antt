@@ -6,7 +6,7 @@ use Rattle.xml.specs.Bytes.{Bytes}
 use Rattle.keys.specs.Result.{Result, refused, ok}
 use Rattle.marks.specs.declared.Mark.{Mark}
 use Rattle.marks.specs.Marks.{Named}
-use Rattle.versions.specs.Calls.{answer, Given, Marked, marked, found_mark, set_mark, find_mark, step_back, step_back_to_mark}
+use Rattle.versions.specs.Calls.{answer, Given, marked, found_mark, set_mark, find_mark, step_back, step_back_to_mark}
 use Rattle.versions.specs.CallLaws.{ByNumber, by_number}
 
 marked-kept : (table : List Mark) (x : Result Given) → ((marked table x).answer.number ≡ 0 → ⊥) → (marked table x).table ≡ table
