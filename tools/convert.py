@@ -1,7 +1,13 @@
 #!/usr/bin/env python3
-"""Turns walks of the older form (Proof.antt over Tie) into Invariants.antt and Answers.antt, by the names that rt check --generated DIR --old-names writes.
+"""Turns a crate's proofs of the older form (Proof.antt over Tie) into Invariants.antt and Answers.antt.
 
-usage: tools/convert.py CRATE NAMES.json
+usage: tools/convert.py CRATE NAMES.json        at the top of the repository, after port.py and respell.py, lower crates proved
+
+NAMES.json is what `rt check --generated DIR --old-names` writes for the crate. A goal, a loop and a step of the code get today's names; a
+path of `before`s is looked up in the chain of places of its goal; helpers over a place of the code are put into the answers that call
+them, as lets; answers that only search are left out. It prints what it could not place ('no step', 'no goal', LEFT in the file), and leaves
+walks of the machine's code (without Tie) as they are. What joins two branches (`⊎_elim .. branch`) is turned by hand: the check prints the
+`elim` to write.
 """
 import glob, json, os, re, sys
 
@@ -44,12 +50,9 @@ class Fn:
         if name == "args":
             r = ".args" + "".join("." + x for x in rest)
             for o, n in self.d["args"]:
-                pass
-            for pair in self.d["args"]:
-                for o, n in [pair]:
-                    o2, n2 = o.replace(" ", ""), n.replace(" ", "")
-                    if r == o2 or r.startswith(o2 + "."):
-                        r = n2 + r[len(o2):]
+                o, n = o.replace(" ", ""), n.replace(" ", "")
+                if r == o or r.startswith(o + "."):
+                    r = n + r[len(o):]
             return "c" + r
         if name == "requires" and self.cycle and rest and rest[0] in "01":
             return "c." + ".".join(["requires"] + rest[1:]) if rest[0] == "1" else "c.decreases" + "".join("." + x for x in rest[1:])
@@ -143,7 +146,6 @@ def convert(folder, fns, log):
     text = dedent_module(raw)
     bl = blocks(text)
     header, uses, inv, answers, helpers, ctx_helpers = [], [], [], [], [], {}
-    aliases = {}
     for b in bl:
         if b.startswith("--") or b.startswith("use "):
             for l in b.split("\n"):
@@ -268,7 +270,7 @@ def convert(folder, fns, log):
             rest_ls = [l for l in ls[1:] if not l.startswith("unfolding ")]
             dm = re.match(re.escape(name) + r"((?:\s+[^\s=]+)*)\s*=\s*(.*)", "\n".join(rest_ls), re.S)
             args, expr = dm.group(1).split(), dm.group(2)
-            answers.append((f, new, (i, args, expr, unf), lead)); aliases[name] = new
+            answers.append((f, new, (i, args, expr, unf), lead))
             continue
         t = re.match(r"\s*\((c|w) : (?:tie|lts|[\w'-]*-lts)\.([A-Za-z][\w'-]*)[^)]*\)\s*(→)?\s*(.*)", typ)
         if t and re.search(r"(tie|lts)\.", typ):
@@ -342,8 +344,6 @@ def convert(folder, fns, log):
             e = re.sub(r"\(" + re.escape(h) + r"\)", h, e)
         for l in lg:
             log.append(f"{folder}: {n}: {l}")
-        for o, nn in aliases.items():
-            e = re.sub(r"(?<![\w.'-])" + re.escape(o) + r"(?![\w'-])(?= )", nn, e) if False else e
         a = " ".join((["t"] if cyc else []) + ["c"] + extra)
         n = f.d["stem"] + n
         e = re.sub(r"\(?\bnot-(true|false) (?:_|[\w.'-]+|\([^()]*\)) (c\.[\w.-]*)-raw\b(\)?)", lambda m: m.group(2) if not (m.group(0).startswith("(") and m.group(3)) and not m.group(0).startswith("(") and not m.group(3) else (m.group(2) if m.group(0).startswith("(") and m.group(3) else m.group(0)), e)
