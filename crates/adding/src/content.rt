@@ -13,7 +13,7 @@ use crate::timed::{put_more, put_within};
 use keys::places::Part;
 use walks::timed::put_newest;
 use xml::compare::same_nodes;
-use xml::tape::view_at;
+use xml::tape::{Document, view_at};
 use xml::writer::write_at;
 
 // The place after what was written, and how many nodes the version brought that the archive lacked.
@@ -23,38 +23,38 @@ pub struct Added {
     pub fresh: usize,
 }
 
-// Contents in their `T`s, lo to hi: the one that is the version's gains n + 1, or the version's comes last.
+// Contents in their `T`s, lo to hi: the one that is the version's gains n + 1, or the version's comes last. They are linked by `next`, so no
+// range counts them.
 fn write_branches(
-    src: &[u8],
-    tape: &[u32],
+    archive: &Document,
     lo: usize,
     hi: usize,
-    vsrc: &[u8],
-    vtape: &[u32],
+    version: &Document,
     vlo: usize,
     vhi: usize,
     n: usize,
     out: &mut [u8],
     at: usize,
 ) -> Added
-    requires { SomeBranches n src.now tape.now lo hi × Valid vsrc.now vtape.now vlo vhi × (n ≤ 998) × (hi ≤ 2 ^ 32) × (vhi ≤ 2 ^ 32) × (at < 2 ^ 58) }
-    ensures { (f v : Forest) → Tape src.now tape.now lo hi f → Tape vsrc.now vtape.now vlo vhi v
+    requires { SomeBranches n archive.now.src.now archive.now.tape.now lo hi × Valid version.now.src.now version.now.tape.now vlo vhi × (n ≤ 998) × (hi ≤ 2 ^ 32) × (vhi ≤ 2 ^ 32) × (at < 2 ^ 58) }
+    ensures { (f v : Forest) → Tape archive.now.src.now archive.now.tape.now lo hi f → Tape version.now.src.now version.now.tape.now vlo vhi v
         → BranchesIn n f → untimed v ≡ true
         → Grew out.old at (add_branch n v f) f (vhi - vlo) (262144 * (hi - lo + (vhi - vlo)) + 32768) result out.new }
 {
     let mut p = lo;
     let mut to = at;
     while p < hi {
-        let v = view_at(tape, p);
-        if same_nodes(vsrc, vtape, vlo, vhi, src, tape, p + 1, v.next) {
-            let rest = put_more(src, v.start, v.end, tape, p + 1, v.next, n, out, to);
-            let last = write_at(src, tape, v.next, hi, out, rest);
+        let v = archive.view(p);
+        // Each is lent again, since same_nodes asks for one lifetime.
+        if same_nodes(&*version, vlo, vhi, &*archive, p + 1, v.next) {
+            let rest = put_more(archive, v.start, v.end, p + 1, v.next, n, out, to);
+            let last = write_at(archive, v.next, hi, out, rest);
             return Added { at: last, fresh: 0 };
         }
-        to = write_at(src, tape, p, v.next, out, to);
+        to = write_at(archive, p, v.next, out, to);
         p = v.next;
     }
-    let last = put_newest(n, vsrc, vtape, vlo, vhi, out, to);
+    let last = put_newest(n, version, vlo, vhi, out, to);
     Added {
         at: last,
         fresh: vhi - vlo,
@@ -63,12 +63,10 @@ fn write_branches(
 
 // One content, lo to hi, which stood in the versions `around`: it stays, or is in a `T` beside the version's.
 fn write_bare(
-    src: &[u8],
-    tape: &[u32],
+    archive: &Document,
     lo: usize,
     hi: usize,
-    vsrc: &[u8],
-    vtape: &[u32],
+    version: &Document,
     vlo: usize,
     vhi: usize,
     n: usize,
@@ -76,17 +74,17 @@ fn write_bare(
     out: &mut [u8],
     at: usize,
 ) -> Added
-    requires { Valid src.now tape.now lo hi × (around.start ≤ around.end) × (around.end ≤ length src.now) × (around.end - around.start ≤ 3000) × Valid vsrc.now vtape.now vlo vhi × (n ≤ 998) × (hi ≤ 2 ^ 32) × (vhi ≤ 2 ^ 32) × (at < 2 ^ 58) }
-    ensures { (t : Times) (f v : Forest) → Tape src.now tape.now lo hi f → Tape vsrc.now vtape.now vlo vhi v
-        → untimed v ≡ true → Says n src.now around.start around.end t
+    requires { Valid archive.now.src.now archive.now.tape.now lo hi × (around.start ≤ around.end) × (around.end ≤ length archive.now.src.now) × (around.end - around.start ≤ 3000) × Valid version.now.src.now version.now.tape.now vlo vhi × (n ≤ 998) × (hi ≤ 2 ^ 32) × (vhi ≤ 2 ^ 32) × (at < 2 ^ 58) }
+    ensures { (t : Times) (f v : Forest) → Tape archive.now.src.now archive.now.tape.now lo hi f → Tape version.now.src.now version.now.tape.now vlo vhi v
+        → untimed v ≡ true → Says n archive.now.src.now around.start around.end t
         → Grew out.old at (add_bare n t v f) f (vhi - vlo) (262144 * (hi - lo + (vhi - vlo)) + 32768) result out.new }
 {
-    if same_nodes(vsrc, vtape, vlo, vhi, src, tape, lo, hi) {
-        let last = write_at(src, tape, lo, hi, out, at);
+    if same_nodes(version, vlo, vhi, archive, lo, hi) {
+        let last = write_at(archive, lo, hi, out, at);
         return Added { at: last, fresh: 0 };
     }
-    let to = put_within(src, around.start, around.end, tape, lo, hi, out, at);
-    let last = put_newest(n, vsrc, vtape, vlo, vhi, out, to);
+    let to = put_within(archive, around.start, around.end, lo, hi, out, at);
+    let last = put_newest(n, version, vlo, vhi, out, to);
     Added {
         at: last,
         fresh: vhi - vlo,
@@ -106,12 +104,10 @@ fn is_branched(tape: &[u32], lo: usize, hi: usize) -> bool
 
 // What a frontier comes to hold: lo to hi is what it held in the versions `around`, vlo to vhi what it holds in version n + 1.
 pub fn write_contents(
-    src: &[u8],
-    tape: &[u32],
+    archive: &Document,
     lo: usize,
     hi: usize,
-    vsrc: &[u8],
-    vtape: &[u32],
+    version: &Document,
     vlo: usize,
     vhi: usize,
     n: usize,
@@ -119,13 +115,13 @@ pub fn write_contents(
     out: &mut [u8],
     at: usize,
 ) -> Added
-    requires { SomeFront n src.now tape.now lo hi × (around.start ≤ around.end) × (around.end ≤ length src.now) × (around.end - around.start ≤ 3000) × Valid vsrc.now vtape.now vlo vhi × (n ≤ 998) × (hi ≤ 2 ^ 32) × (vhi ≤ 2 ^ 32) × (at < 2 ^ 58) }
-    ensures { (t : Times) (f v : Forest) → Tape src.now tape.now lo hi f → Tape vsrc.now vtape.now vlo vhi v
-        → FrontIn n f → untimed v ≡ true → Says n src.now around.start around.end t
+    requires { SomeFront n archive.now.src.now archive.now.tape.now lo hi × (around.start ≤ around.end) × (around.end ≤ length archive.now.src.now) × (around.end - around.start ≤ 3000) × Valid version.now.src.now version.now.tape.now vlo vhi × (n ≤ 998) × (hi ≤ 2 ^ 32) × (vhi ≤ 2 ^ 32) × (at < 2 ^ 58) }
+    ensures { (t : Times) (f v : Forest) → Tape archive.now.src.now archive.now.tape.now lo hi f → Tape version.now.src.now version.now.tape.now vlo vhi v
+        → FrontIn n f → untimed v ≡ true → Says n archive.now.src.now around.start around.end t
         → Grew out.old at (add_content n t v f) f (vhi - vlo) (262144 * (hi - lo + (vhi - vlo)) + 32768) result out.new }
 {
-    if is_branched(tape, lo, hi) {
-        return write_branches(src, tape, lo, hi, vsrc, vtape, vlo, vhi, n, out, at);
+    if is_branched(archive.tape, lo, hi) {
+        return write_branches(archive, lo, hi, version, vlo, vhi, n, out, at);
     }
-    write_bare(src, tape, lo, hi, vsrc, vtape, vlo, vhi, n, around, out, at)
+    write_bare(archive, lo, hi, version, vlo, vhi, n, around, out, at)
 }

@@ -1,5 +1,6 @@
 // A sibling of the archive where a version is added: an element, bare or in a `T` of its own.
 ghost use Rattle.std.specs.Prelude.{◌≡◌, List, ℕ, ◌+◌, ◌*◌, ◌-◌, ◌^◌, ◌<◌, ◌≤◌, length};
+ghost use Rattle.std.specs.Ordering.{ordering_index};
 ghost use Rattle.std.proofs.Math.Option.{Option};
 ghost use Rattle.std.proofs.Math.Seq.{slice};
 ghost use Rattle.xml.specs.Bytes.{Bytes};
@@ -20,19 +21,20 @@ ghost use Rattle.versions.specs.HistoryTape.{element_at};
 
 use crate::timed::{put_grown, put_within};
 use keys::label::compare_labels_at;
-use keys::places::{Part, child};
+use keys::places::{KeyTable, Part};
+use std::cmp::Ordering;
 use walks::history::element_at;
 use walks::timed::put_newest;
-use xml::tape::view_at;
+use xml::tape::{Document, view_at};
 use xml::writer::{least, put_word, write_at};
 
 // The text of its set, in an element that stands in the versions `around`.
-pub fn set_of(src: &[u8], tape: &[u32], p: usize, around: Part) -> Part
-    requires { (2 * p + 1 < length tape.now) × (end_in (head_at tape.now p) ≤ length src.now) }
-    ensures { (n : ℕ) (t : Times) (o : Option Bytes) (m : Bytes) (k : Forest) → n ≤ 999 → At src.now tape.now p o m k
-        → SetOf n o → Says n src.now around.start around.end t → Says n src.now result.start result.end (set_in n t o) }
+pub fn set_of(archive: &Document, p: usize, around: Part) -> Part
+    requires { (2 * p + 1 < length archive.now.tape.now) × (end_in (head_at archive.now.tape.now p) ≤ length archive.now.src.now) }
+    ensures { (n : ℕ) (t : Times) (o : Option Bytes) (m : Bytes) (k : Forest) → n ≤ 999 → At archive.now.src.now archive.now.tape.now p o m k
+        → SetOf n o → Says n archive.now.src.now around.start around.end t → Says n archive.now.src.now result.start result.end (set_in n t o) }
 {
-    let v = view_at(tape, p);
+    let v = archive.view(p);
     if v.kind == 2 {
         return Part {
             start: v.start,
@@ -44,21 +46,20 @@ pub fn set_of(src: &[u8], tape: &[u32], p: usize, around: Part) -> Part
 
 // Writes the opening tag of its `T`, if it has one, with the set of this text and n + 1.
 pub fn open_set(
-    src: &[u8],
-    tape: &[u32],
+    archive: &Document,
     p: usize,
     set: Part,
     n: usize,
     out: &mut [u8],
     at: usize,
 ) -> usize
-    requires { (2 * p + 1 < length tape.now) × (set.start ≤ set.end) × (set.end ≤ length src.now) × (set.end - set.start ≤ 3000) × IsSetTo n (slice set.start set.end src.now) × (n ≤ 998) × (at < 2 ^ 59) }
-    ensures { ((o : Option Bytes) (m : Bytes) (k : Forest) (t : Times) → At src.now tape.now p o m k → Says n src.now set.start set.end t
+    requires { (2 * p + 1 < length archive.now.tape.now) × (set.start ≤ set.end) × (set.end ≤ length archive.now.src.now) × (set.end - set.start ≤ 3000) × IsSetTo n (slice set.start set.end archive.now.src.now) × (n ≤ 998) × (at < 2 ^ 59) }
+    ensures { ((o : Option Bytes) (m : Bytes) (k : Forest) (t : Times) → At archive.now.src.now archive.now.tape.now p o m k → Says n archive.now.src.now set.start set.end t
         → Wrote out.old at (opened t o) result out.new) × (result ≤ at + 3008) }
 {
-    let v = view_at(tape, p);
+    let v = archive.view(p);
     if v.kind == 2 {
-        return put_grown(src, set.start, set.end, n, out, at);
+        return put_grown(archive.src, set.start, set.end, n, out, at);
     }
     at
 }
@@ -77,86 +78,74 @@ pub fn close_set(tape: &[u32], p: usize, out: &mut [u8], at: usize) -> usize
 }
 
 // Writes it from the start of `out` where the version lacks it: it is in a `T` now.
-pub fn write_old(src: &[u8], tape: &[u32], p: usize, around: Part, out: &mut [u8]) -> usize
-    requires { (p < next_at tape.now p) × Valid src.now tape.now p (next_at tape.now p) × (next_at tape.now p ≤ 2 ^ 32) × (around.start ≤ around.end) × (around.end ≤ length src.now) × (around.end - around.start ≤ 3000) }
-    ensures { ((n : ℕ) (t : Times) (o : Option Bytes) (m : Bytes) (k : Forest) → n ≤ 999 → At src.now tape.now p o m k
-        → Says n src.now around.start around.end t → Wrote out.old 0 (write (old_part t o m k)) result out.new)
-        × (result ≤ 3012 + 163840 * (next_at tape.now p - p)) }
+pub fn write_old(archive: &Document, p: usize, around: Part, out: &mut [u8]) -> usize
+    requires { (p < next_at archive.now.tape.now p) × Valid archive.now.src.now archive.now.tape.now p (next_at archive.now.tape.now p) × (next_at archive.now.tape.now p ≤ 2 ^ 32) × (around.start ≤ around.end) × (around.end ≤ length archive.now.src.now) × (around.end - around.start ≤ 3000) }
+    ensures { ((n : ℕ) (t : Times) (o : Option Bytes) (m : Bytes) (k : Forest) → n ≤ 999 → At archive.now.src.now archive.now.tape.now p o m k
+        → Says n archive.now.src.now around.start around.end t → Wrote out.old 0 (write (old_part t o m k)) result out.new)
+        × (result ≤ 3012 + 163840 * (next_at archive.now.tape.now p - p)) }
 {
-    let v = view_at(tape, p);
+    let v = archive.view(p);
     if v.kind == 2 {
-        return write_at(src, tape, p, v.next, out, 0);
+        return write_at(archive, p, v.next, out, 0);
     }
-    put_within(src, around.start, around.end, tape, p, v.next, out, 0)
+    put_within(archive, around.start, around.end, p, v.next, out, 0)
 }
 
-// Writes the elements vlo to vhi of the version as what version n + 1 alone has, each into the output's part from the current place.
+// Writes the elements vlo to vhi of the version as what version n + 1 alone has, each into the output's part from the current place. They are
+// linked by `next`, so no range counts them.
 pub fn write_new(
-    vsrc: &[u8],
-    vtape: &[u32],
+    version: &Document,
     vlo: usize,
     vhi: usize,
     n: usize,
     out: &mut [u8],
     at: usize,
 ) -> usize
-    requires { (n ≤ 998) × Valid vsrc.now vtape.now vlo vhi × (vhi ≤ 2 ^ 32) × (at + 262144 * (vhi - vlo) < 2 ^ 59) }
-    ensures { ((K : KeyList) (w : Path) (v : Forest) → Tape vsrc.now vtape.now vlo vhi v → VersionIn K w v
+    requires { (n ≤ 998) × Valid version.now.src.now version.now.tape.now vlo vhi × (vhi ≤ 2 ^ 32) × (at + 262144 * (vhi - vlo) < 2 ^ 59) }
+    ensures { ((K : KeyList) (w : Path) (v : Forest) → Tape version.now.src.now version.now.tape.now vlo vhi v → VersionIn K w v
         → Wrote out.old at (write (add_new K n w v)) result out.new) × (result ≤ at + 262144 * (vhi - vlo)) }
 {
     let mut q = vlo;
     let mut to = at;
     while q < vhi {
-        let w = view_at(vtape, q);
+        let w = version.view(q);
         let from = least(to, out.len());
-        to += put_newest(n, vsrc, vtape, q, w.next, &mut out[from..], 0);
+        to += put_newest(n, version, q, w.next, &mut out[from..], 0);
         q = w.next;
     }
     to
 }
 
 // The place of its element, in an element at a place.
-pub fn own_place(
-    text: &[u8],
-    table: &[u32],
-    paths: usize,
-    place: usize,
-    src: &[u8],
-    tape: &[u32],
-    p: usize,
-) -> usize
-    requires { Labelled text.now table.now paths place src.now tape.now (element_at tape.now p) × (2 * p + 1 < length tape.now) }
-    ensures { OfPlace text.now table.now paths place (λ K w. (o : Option Bytes) (m : Bytes) (k : Forest)
-        → At src.now tape.now p o m k → result ≡ place_of K (w ▸ m)) }
+pub fn own_place(keys: &KeyTable, place: usize, archive: &Document, p: usize) -> usize
+    requires { Labelled keys.now.text.now keys.now.table.now keys.now.paths place archive.now.src.now archive.now.tape.now (element_at archive.now.tape.now p) × (2 * p + 1 < length archive.now.tape.now) }
+    ensures { OfPlace keys.now.text.now keys.now.table.now keys.now.paths place (λ K w. (o : Option Bytes) (m : Bytes) (k : Forest)
+        → At archive.now.src.now archive.now.tape.now p o m k → result ≡ place_of K (w ▸ m)) }
 {
-    let e = element_at(tape, p);
-    let v = view_at(tape, e);
-    child(text, table, paths, place, src, v.start, v.end)
+    let e = element_at(archive.tape, p);
+    let v = archive.view(e);
+    keys.child(place, archive.part(v))
 }
 
-// How the label of the sibling at p, whose element is at the place `own`, compares with that of the version's next element, q: 0 before,
-// also where none is left, 1 the same, 2 after.
+// How the label of the sibling at p, whose element is at the place `own`, compares with that of the version's next element, q:
+// before, also where none is left.
 pub fn order_of(
-    text: &[u8],
-    table: &[u32],
-    paths: usize,
+    keys: &KeyTable,
     own: usize,
-    src: &[u8],
-    tape: &[u32],
+    archive: &Document,
     p: usize,
-    vsrc: &[u8],
-    vtape: &[u32],
+    version: &Document,
     q: usize,
     vhi: usize,
-) -> u8
-    requires { SomeNext text.now table.now paths own src.now tape.now p vsrc.now vtape.now q vhi }
-    ensures { (K : KeyList) (w : Path) → Table text.now table.now paths K → (o : Option Bytes) (m : Bytes) (k v : Forest) → place_of K (w ▸ m) ≡ own
-        → At src.now tape.now p o m k → Tape vsrc.now vtape.now q vhi v → VersionIn K w v
-        → result ≡ order_of (label K w m k) (first_label K w v) }
+) -> Ordering
+    requires { SomeNext keys.now.text.now keys.now.table.now keys.now.paths own archive.now.src.now archive.now.tape.now p version.now.src.now version.now.tape.now q vhi }
+    ensures { (K : KeyList) (w : Path) → Table keys.now.text.now keys.now.table.now keys.now.paths K → (o : Option Bytes) (m : Bytes) (k v : Forest) → place_of K (w ▸ m) ≡ own
+        → At archive.now.src.now archive.now.tape.now p o m k → Tape version.now.src.now version.now.tape.now q vhi v → VersionIn K w v
+        → ordering_index result ≡ order_of (label K w m k) (first_label K w v) }
 {
     if vhi <= q {
-        return 0;
+        return Ordering::Less;
     }
-    let e = element_at(tape, p);
-    compare_labels_at(text, table, paths, own, src, tape, e, vsrc, vtape, q)
+    let e = element_at(archive.tape, p);
+    compare_labels_at(keys, own, archive, e, version, q)
 }

@@ -12,6 +12,7 @@ ghost use Rattle.timestamp.specs.Place.{IsSetTo};
 
 use timestamp::change::grown;
 use walks::timed::put_changed;
+use xml::tape::Document;
 use xml::writer::{put_open, put_word, write_at};
 
 // Writes the opening tag of a `T` with the set of the text src[a..e], of n versions, and n + 1.
@@ -26,41 +27,39 @@ pub fn put_grown(src: &[u8], a: usize, e: usize, n: usize, out: &mut [u8], at: u
 
 // Writes the nodes lo to hi in such a `T`.
 pub fn put_more(
-    src: &[u8],
+    archive: &Document,
     a: usize,
     e: usize,
-    tape: &[u32],
     lo: usize,
     hi: usize,
     n: usize,
     out: &mut [u8],
     at: usize,
 ) -> usize
-    requires { (a ≤ e) × (e ≤ length src.now) × (e - a ≤ 3000) × IsSetTo n (slice a e src.now) × (n ≤ 998) × Valid src.now tape.now lo hi × (hi ≤ 2 ^ 32) × (at < 2 ^ 59) }
-    ensures { ((s : ℕ → Bool) (f : Forest) → parsed (slice a e src.now) ≡ accepted s → Tape src.now tape.now lo hi f
+    requires { (a ≤ e) × (e ≤ length archive.now.src.now) × (e - a ≤ 3000) × IsSetTo n (slice a e archive.now.src.now) × (n ≤ 998) × Valid archive.now.src.now archive.now.tape.now lo hi × (hi ≤ 2 ^ 32) × (at < 2 ^ 59) }
+    ensures { ((s : ℕ → Bool) (f : Forest) → parsed (slice a e archive.now.src.now) ≡ accepted s → Tape archive.now.src.now archive.now.tape.now lo hi f
         → Wrote out.old at (write (stamp (text_of (adding (n + 1) s)) f end)) result out.new) × (result ≤ at + 3012 + 163840 * (hi - lo)) }
 {
-    let inside = put_grown(src, a, e, n, out, at);
-    let close = write_at(src, tape, lo, hi, out, inside);
+    let inside = put_grown(archive.src, a, e, n, out, at);
+    let close = write_at(archive, lo, hi, out, inside);
     put_word(b"</T>", out, close)
 }
 
-// Writes the nodes lo to hi in a `T` with the text src[a..e].
+// Writes the nodes lo to hi in a `T` with the text archive.src[a..e].
 pub fn put_within(
-    src: &[u8],
+    archive: &Document,
     a: usize,
     e: usize,
-    tape: &[u32],
     lo: usize,
     hi: usize,
     out: &mut [u8],
     at: usize,
 ) -> usize
-    requires { (a ≤ e) × (e ≤ length src.now) × (e - a ≤ 3000) × Valid src.now tape.now lo hi × (hi ≤ 2 ^ 32) × (at < 2 ^ 59) }
-    ensures { ((f : Forest) → Tape src.now tape.now lo hi f
-        → Wrote out.old at (write (stamp (slice a e src.now) f end)) result out.new) × (result ≤ at + 3012 + 163840 * (hi - lo)) }
+    requires { (a ≤ e) × (e ≤ length archive.now.src.now) × (e - a ≤ 3000) × Valid archive.now.src.now archive.now.tape.now lo hi × (hi ≤ 2 ^ 32) × (at < 2 ^ 59) }
+    ensures { ((f : Forest) → Tape archive.now.src.now archive.now.tape.now lo hi f
+        → Wrote out.old at (write (stamp (slice a e archive.now.src.now) f end)) result out.new) × (result ≤ at + 3012 + 163840 * (hi - lo)) }
 {
-    let inside = put_open(false, src, a, e, out, at);
-    let close = write_at(src, tape, lo, hi, out, inside);
+    let inside = put_open(false, &archive.src[a..e], out, at);
+    let close = write_at(archive, lo, hi, out, inside);
     put_word(b"</T>", out, close)
 }

@@ -1,9 +1,10 @@
 -- Demand 3 of the code, joined to the code: the eight calls, each by the postcondition that Rattle reads off the contract which it is proved to
 -- meet (`Post`), or, of the four over a lent table of marks, by what its contract says (`Tied`); and the one claim about all runs of them.
-use mathlib.Core.Path.{◌≡◌, refl, sym, ◌∙◌, ap}
+use mathlib.Core.Path.{◌≡◌, refl, sym, ap}
 use lib.ListN.{length}
 use Rattle.xml.specs.Bytes.{Bytes}
 use Rattle.keys.specs.Result.{ok}
+use Rattle.keys.specs.Meant.{number_in, length_in}
 use Rattle.keys.specs.KeyList.{KeyList, key_list}
 use Rattle.versions.proofs.MarkLaws.{find-nothing}
 use Rattle.archive.specs.Giving.{ends-told, marked-told}
@@ -27,7 +28,7 @@ use Rattle.archive.proofs.history.give_history.Reads as history-reads
 -- `step_back(keys, archive, marks, i, out, work)`
 abbrev back_says : Saying step_back.ended
 back_says κs a r x =
-    BackEnds a.0.now a.1.0.now a.1.1.0.now a.1.1.1.0 a.1.1.1.1.0.now a.1.1.1.1.1.0.now r.number r.length
+    BackEnds a.0.now a.1.0.now a.1.1.0.now a.1.1.1.0 a.1.1.1.1.0.now a.1.1.1.1.1.0.now (number_in r) (length_in r)
     x.1.1.1.1.0.now x.1.1.1.1.1.0.now x.1.1.0.now
 
 pub back-tied : Tied step_back.ended (λ M 𝓤 𝓛 mem run. step_back.clauses 𝓛 mem run) back_says
@@ -36,7 +37,7 @@ back-tied M 𝓤 𝓛 mem run κs a g r x = refl
 -- `step_back_to_mark(keys, archive, marks, name, out, work)`
 abbrev named_says : Saying step-back-to-mark.ended
 named_says κs a r x =
-    NamedEnds a.0.now a.1.0.now a.1.1.0.now a.1.1.1.0.now a.1.1.1.1.0.now a.1.1.1.1.1.0.now r.number r.length
+    NamedEnds a.0.now a.1.0.now a.1.1.0.now a.1.1.1.0.now a.1.1.1.1.0.now a.1.1.1.1.1.0.now (number_in r) (length_in r)
     x.1.1.1.1.0.now x.1.1.1.1.1.0.now x.1.1.0.now
 
 pub named-tied : Tied step-back-to-mark.ended (λ M 𝓤 𝓛 mem run. step-back-to-mark.clauses 𝓛 mem run) named_says
@@ -45,7 +46,7 @@ named-tied M 𝓤 𝓛 mem run κs a g r x = refl
 -- `set_mark(keys, archive, marks, name, i, work)`
 abbrev set_says : Saying set-mark.ended
 set_says κs a r x =
-    SetEnds a.0.now a.1.0.now a.1.1.0.now a.1.1.1.0.now a.1.1.1.1.0 a.1.1.1.1.1.0.now r.number r.length
+    SetEnds a.0.now a.1.0.now a.1.1.0.now a.1.1.1.0.now a.1.1.1.1.0 a.1.1.1.1.1.0.now (number_in r) (length_in r)
     x.1.1.1.1.1.0.now x.1.1.0.now
 
 pub set-tied : Tied set-mark.ended (λ M 𝓤 𝓛 mem run. set-mark.clauses 𝓛 mem run) set_says
@@ -65,44 +66,44 @@ calls = record {
   founds = record {
     At = ExitsOf found-kinds.ps found-kinds.r found-reads.Post;
     args = λ e. (e.1.0.now, e.1.1.0.now);
-    exit = λ e. record { out = e.1.1.1.0.now; cells = length e.1.1.1.1.0.now; number = e.2.number; size = e.2.length; left = e.3.1.1.0.now };
+    exit = λ e. record { out = e.1.1.1.0.now; cells = length e.1.1.1.1.0.now; number = number_in e.2; size = length_in e.2; left = e.3.1.1.0.now };
     meets = λ e. ends-told e.4;
   };
   -- `add_version(keys, archive, version, out, work)`
   adds = record {
     At = ExitsOf add-kinds.ps add-kinds.r add_reads.Post;
     args = λ e. (e.1.0.now, e.1.1.0.now, e.1.1.1.0.now);
-    exit = λ e. record { out = e.1.1.1.1.0.now; cells = length e.1.1.1.1.1.0.now; number = e.2.number; size = e.2.length; left = e.3.1.1.1.0.now };
+    exit = λ e. record { out = e.1.1.1.1.0.now; cells = length e.1.1.1.1.1.0.now; number = number_in e.2; size = length_in e.2; left = e.3.1.1.1.0.now };
     meets = λ e. ends-told e.4;
   };
   backs = record {
     At = WalkedExits step_back.ended back_says;
     args = λ e. (e.1.0.now, e.1.1.0.now, e.1.1.1.0.now, e.1.1.1.1.0);
-    exit = λ e. record { out = e.1.1.1.1.1.0.now; cells = length e.1.1.1.1.1.1.0.now; number = e.2.number; size = e.2.length; left = e.3.1.1.1.1.0.now };
+    exit = λ e. record { out = e.1.1.1.1.1.0.now; cells = length e.1.1.1.1.1.1.0.now; number = number_in e.2; size = length_in e.2; left = e.3.1.1.1.1.0.now };
     table = λ e. e.3.1.1.0.now;
     meets = λ e. marked-told e.4;
   };
   names = record {
     At = WalkedExits step-back-to-mark.ended named_says;
     args = λ e. (e.1.0.now, e.1.1.0.now, e.1.1.1.0.now, e.1.1.1.1.0.now);
-    exit = λ e. record { out = e.1.1.1.1.1.0.now; cells = length e.1.1.1.1.1.1.0.now; number = e.2.number; size = e.2.length; left = e.3.1.1.1.1.0.now };
+    exit = λ e. record { out = e.1.1.1.1.1.0.now; cells = length e.1.1.1.1.1.1.0.now; number = number_in e.2; size = length_in e.2; left = e.3.1.1.1.1.0.now };
     table = λ e. e.3.1.1.0.now;
     meets = λ e. marked-told e.4;
   };
   marks = record {
     At = WalkedExits set-mark.ended set_says;
     args = λ e. (e.1.0.now, e.1.1.0.now, e.1.1.1.0.now, e.1.1.1.1.0.now, e.1.1.1.1.1.0);
-    return = λ e. record { cells = length e.1.1.1.1.1.1.0.now; number = e.2.number; size = e.2.length };
+    return = λ e. record { cells = length e.1.1.1.1.1.1.0.now; number = number_in e.2; size = length_in e.2 };
     table = λ e. e.3.1.1.0.now;
     meets = λ e. ((e.4.ends.number_is, e.4.ends.size_is), e.4.table_is);
   };
   finds = record {
     At = WalkedExits find-mark.ended find_says;
     args = λ e. (e.1.0.now, e.1.1.0.now, e.1.1.1.0.now, e.1.1.1.1.0.now);
-    return = λ e. record { cells = length e.1.1.1.1.1.0.now; number = e.2.number; size = e.2.length };
-    version = λ e. e.2.version;
+    return = λ e. record { cells = length e.1.1.1.1.1.0.now; number = number_in e.2; size = 0 };
+    version = λ e. length_in e.2;
     meets = λ e. (
-      (e.4.number_is, e.4.size_is ∙ sym (ap length (find-nothing e.1.0.now e.1.1.0.now e.1.1.1.0.now e.1.1.1.1.0.now (length e.1.1.1.1.1.0.now)))),
+      (e.4.number_is, sym (ap length (find-nothing e.1.0.now e.1.1.0.now e.1.1.1.0.now e.1.1.1.1.0.now (length e.1.1.1.1.1.0.now)))),
       e.4.version-is,
     );
   };
@@ -110,14 +111,14 @@ calls = record {
   retrieves = record {
     At = ExitsOf retrieve-kinds.ps retrieve-kinds.r retrieve-reads.Post;
     args = λ e. (e.1.0.now, e.1.1.0.now, e.1.1.1.0);
-    exit = λ e. record { out = e.1.1.1.1.0.now; cells = length e.1.1.1.1.1.0.now; number = e.2.number; size = e.2.length; left = e.3.1.1.1.0.now };
+    exit = λ e. record { out = e.1.1.1.1.0.now; cells = length e.1.1.1.1.1.0.now; number = number_in e.2; size = length_in e.2; left = e.3.1.1.1.0.now };
     meets = λ e. ends-told e.4;
   };
   -- `give_history(keys, archive, address, out, work)`
   histories = record {
     At = ExitsOf history-kinds.ps history-kinds.r history-reads.Post;
     args = λ e. (e.1.0.now, e.1.1.0.now, e.1.1.1.0.now);
-    exit = λ e. record { out = e.1.1.1.1.0.now; cells = length e.1.1.1.1.1.0.now; number = e.2.number; size = e.2.length; left = e.3.1.1.1.0.now };
+    exit = λ e. record { out = e.1.1.1.1.0.now; cells = length e.1.1.1.1.1.0.now; number = number_in e.2; size = length_in e.2; left = e.3.1.1.1.0.now };
     meets = λ e. ends-told e.4;
   };
 }

@@ -12,7 +12,8 @@ use Rattle.xml.specs.Over.{over, Wrote}
 use Rattle.xml.specs.Tape.{Tape}
 use Rattle.xml.specs.OverLaws.{length_over, wrote-over}
 use Rattle.xml.specs.Truth.{or_right}
-use Rattle.keys.specs.Result.{Result, number_of, refused, ◌>>=◌, ◌>>◌, refuse, r10, r11, r13, r14}
+use Rattle.keys.specs.ResultLaws.{refused-ok}
+use Rattle.keys.specs.Result.{Refusal, Result, number_of, refused, ok, ◌>>=◌, ◌>>◌, refuse, r11, r13, r14}
 use Rattle.keys.specs.KeyList.{KeyList, key_list}
 use Rattle.keys.specs.Version.{version}
 use Rattle.keys.specs.Versions.{version-legal}
@@ -27,9 +28,8 @@ use Rattle.versions.specs.AllTimed.{legal-last}
 use Rattle.adding.specs.Growth.{Grew}
 use Rattle.adding.specs.AddWhole.{Adding, SomeAdding}
 use Rattle.archive.specs.Reception.{Version}
-use Rattle.archive.specs.Giving.{Gives, gives_same, step_ok, test-refused, test-passed, give-done}
+use Rattle.archive.specs.Giving.{Gives, gives_same, step_ok, test-refused, test-passed, give-done, archive-back}
 use Rattle.legality.specs.Opened.{ArchiveOn}
-use Rattle.archive.specs.OpenedLaws.{archive-10}
 use Rattle.adding.specs.declared.content.Added.{Added}
 use Rattle.archive.specs.declared.add.Size.{Size}
 
@@ -66,32 +66,28 @@ unfolding add_on
 add-from keys received archive out work = sym (adds keys received archive out work)
 
 -- ---- 13 and 14
--- the number of the refusal: too large, or else too long for the output
-abbrev pub pick_refusal : Bool → Bool → ℕ
-pick_refusal true b = 13
-pick_refusal false true = 14
-pick_refusal false false = 0
-
--- the number under which a result of so many nodes and bytes is refused, or 0
-abbrev pub refusal_of : ℕ → ℕ → ℕ → ℕ
-refusal_of count size out = pick_refusal (ltb 1024 count || ltb 32768 size) (ltb out size)
+-- a result of so many nodes and bytes is too large, or else too long for the output
+abbrev pub fitting : ℕ → ℕ → ℕ → Result (Unit {0})
+fitting count size out = do
+  refuse r13 (ltb 1024 count || ltb 32768 size)
+  refuse r14 (ltb out size)
 
 module _ (count size out : ℕ) where
-  pub many-nodes : 1024 < count → 13 ≡ refusal_of count size out
+  pub many-nodes : 1024 < count → refused r13 ≡ fitting count size out
   many-nodes l = rw (lt-ltb 1024 count l)
 
-  pub many-bytes : count ≤ 1024 → 32768 < size → 13 ≡ refusal_of count size out
+  pub many-bytes : count ≤ 1024 → 32768 < size → refused r13 ≡ fitting count size out
   many-bytes c l = rw (le-ltb 1024 count c, lt-ltb 32768 size l)
 
-  pub no_room : count ≤ 1024 → size ≤ 32768 → out < size → 14 ≡ refusal_of count size out
+  pub no_room : count ≤ 1024 → size ≤ 32768 → out < size → refused r14 ≡ fitting count size out
   no_room c d l = rw (le-ltb 1024 count c, le-ltb 32768 size d, lt-ltb out size l)
 
-  pub some-room : count ≤ 1024 → size ≤ 32768 → size ≤ out → 0 ≡ refusal_of count size out
+  pub some-room : count ≤ 1024 → size ≤ 32768 → size ≤ out → ok tt ≡ fitting count size out
   some-room c d l = rw (le-ltb 1024 count c, le-ltb 32768 size d, le-ltb out size l)
 
-not-refused : (a b : Bool) → 0 ≡ pick_refusal a b → (a ≡ false) × (b ≡ false)
-not-refused true b e = absurd (omega arith)
-not-refused false true e = absurd (omega arith)
+not-refused : (a b : Bool) → ok tt ≡ (refuse r13 a >> refuse r14 b) → (a ≡ false) × (b ≡ false)
+not-refused true b e = refused-ok (sym e)
+not-refused false true e = refused-ok (sym e)
 not-refused false false e = (refl, refl)
 
 -- an archive has this size, and lies on the draft if that can hold it
@@ -100,32 +96,36 @@ pub record Drafted (g : Forest) (r : Size) (draft : List ℕ) : Type 0 where
   pub bytes-are : r.bytes ≡ length (write g)
   pub lies : r.bytes ≤ length draft → take r.bytes draft ≡ write g
 
-module _ (g : Forest) (out : List ℕ) where
-  refused_as_lem : {number : ℕ} (a b : Bool) → (ltb 1024 (nodes g) || ltb 32768 (length (write g))) ≡ a → ltb (length out) (length (write g)) ≡ b → number ≡ pick_refusal a b
-      → (number ≡ 0 → ⊥) → Gives (store_in g (length out)) number 0 out out
-  unfolding storable give number_of
-  refused_as_lem true b p q e z = test-refused _ r13 out p e (ap (λ k. eqb k 1) e)
-  refused_as_lem false true p q e z = test-passed _ r13 p (test-refused _ r14 out q e (ap (λ k. eqb k 1) e))
-  refused_as_lem false false p q e z = absurd (z e)
+refused-row : {v w : Refusal} → ◌≡◌ {A = Result (Unit {0})} (refused w) (refused v) → w ≡ v
+refused-row e = cc
 
-module _ (count size out : ℕ) {number : ℕ} (e : number ≡ refusal_of count size out) (d : number ≡ 0) where
+module _ (g : Forest) (out : List ℕ) where
+  refused_as_lem : {w : Refusal} (a b : Bool) → (ltb 1024 (nodes g) || ltb 32768 (length (write g))) ≡ a → ltb (length out) (length (write g)) ≡ b → refused w ≡ (refuse r13 a >> refuse r14 b)
+      → Gives (store_in g (length out)) (number_of w) 0 out out
+  unfolding storable give number_of
+  refused_as_lem true b p q e = test-refused _ r13 out p (ap number_of (refused-row e)) (ap (λ v. eqb (number_of v) 1) (refused-row e))
+  refused_as_lem false true p q e = test-passed _ r13 p (test-refused _ r14 out q (ap number_of (refused-row e)) (ap (λ v. eqb (number_of v) 1) (refused-row e)))
+  refused_as_lem false false p q e = refused-ok e
+
+module _ (count size out : ℕ) (e : ok tt ≡ fitting count size out) where
   stored-as : ((ltb 1024 count || ltb 32768 size) ≡ false) × (ltb out size ≡ false)
-  stored-as = not-refused (ltb 1024 count || ltb 32768 size) (ltb out size) (sym d ∙ e)
+  stored-as = not-refused (ltb 1024 count || ltb 32768 size) (ltb out size) e
 
   -- a size that is not refused
   pub stored-small : size ≤ 32768
   stored-small = ltb-false 32768 size (or_right (ltb 1024 count) (ltb 32768 size) stored-as.0)
 
-module _ (g : Forest) (out : List ℕ) {draft : List ℕ} {r : Size} (x : Drafted g r draft) {number : ℕ} (e : number ≡ refusal_of r.nodes r.bytes (length out)) where
-  pub store-refused : (number ≡ 0 → ⊥) → Gives (store_in g (length out)) number 0 out out
-  store-refused z = refused_as_lem g out _ _ refl refl (e ∙ ap₂ (λ c d. refusal_of c d (length out)) x.nodes-are x.bytes-are) z
+module _ (g : Forest) (out : List ℕ) {draft : List ℕ} {r : Size} (x : Drafted g r draft) where
+  pub store-refused : {w : Refusal} → refused w ≡ fitting r.nodes r.bytes (length out) → Gives (store_in g (length out)) (number_of w) 0 out out
+  store-refused e = refused_as_lem g out _ _ refl refl (e ∙ ap₂ (λ c d. fitting c d (length out)) x.nodes-are x.bytes-are)
 
-  pub store-done : {count : ℕ} {left : List ℕ} → number ≡ 0 → min r.bytes 32768 ≤ length draft → Wrote out 0 (slice 0 r.bytes draft) count left → Gives (store_in g (length out)) 0 count out left
+  pub store-done : {count : ℕ} {left : List ℕ} → ok tt ≡ fitting r.nodes r.bytes (length out) → min r.bytes 32768 ≤ length draft → Wrote out 0 (slice 0 r.bytes draft) count left
+      → Gives (store_in g (length out)) 0 count out left
   unfolding storable
-  store-done {count} {left} d l w =
-      let y = stored-as r.nodes r.bytes (length out) e d in
+  store-done {count} {left} e l w =
+      let y = stored-as r.nodes r.bytes (length out) e in
       let z : (ltb 1024 (nodes g) || ltb 32768 (length (write g))) ≡ false = ap₂ (λ c d. ltb 1024 c || ltb 32768 d) (sym x.nodes-are) (sym x.bytes-are) ∙ y.0 in
-      let p = wrote-over (subst (λ s. Wrote out 0 s count left) (x.lies (omega (arith, l, stored-small r.nodes r.bytes (length out) e d))) w) in
+      let p = wrote-over (subst (λ s. Wrote out 0 s count left) (x.lies (omega (arith, l, stored-small r.nodes r.bytes (length out) e))) w) in
       test-passed _ r13 z (give-done (write g) out p.0 (omega (arith, p.0, x.bytes-are, ltb-false (length out) r.bytes y.1)) p.1)
 
 -- ---- a legal archive and a version received
@@ -151,11 +151,12 @@ module _ {text : Bytes} {table : List ℕ} {paths : ℕ} {src cells : List ℕ} 
       step_ok _ y.forest y.is (step_ok _ x.forest x.is (gives_same (ap (λ j. add_to K j y.forest (length out) x.forest) x.last) (g K x.forest y.forest (adding K t))))
 
 -- 10: the archive, beside a version received
-pub add-10 : {K : KeyList} {vsrc vcells : List ℕ} {vhi : ℕ} (src out : List ℕ) → Version K vsrc vcells vhi → archive_read K src ≡ refused r10 → Gives (add_under K vsrc src (length out)) 10 0 out out
-add-10 {K} src out y e = step_ok _ y.forest y.is (archive-10 K src _ out e)
+pub add-back : {w : Refusal} {K : KeyList} {vsrc vcells : List ℕ} {vhi : ℕ} (src out : List ℕ) → Version K vsrc vcells vhi → archive_read K src ≡ refused w
+    → Gives (add_under K vsrc src (length out)) (number_of w) 0 out out
+add-back {K = K} src out y e = step_ok _ y.forest y.is (archive-back K src _ out e)
 
 -- 11: version 999 is the last
-pub add-11 : (K : KeyList) (n : ℕ) (v f : Forest) (out : List ℕ) → n ≡ 999 → Gives (add_to K n v (length out) f) 11 0 out out
+pub add-11 : (K : KeyList) (n : ℕ) (v f : Forest) (out : List ℕ) → n ≡ 999 → Gives (add_to K n v (length out) f) (number_of r11) 0 out out
 unfolding number_of
 add-11 K n v f out e = test-refused _ r11 out (eq-eqb n 999 e) refl refl
 

@@ -78,11 +78,11 @@ asked-given w i {number = number} {size = size} {out = out} {left = left} a g =
 
 -- ---- the last steps: there is no version 0, and none after n (11); else 14 is left
 module _ (n i : ℕ) (s : Bytes) (out : List ℕ) where
-  pub asked-none : i < 1 → Gives (asked n i (length out) s) 11 0 out out
+  pub asked-none : i < 1 → Gives (asked n i (length out) s) (number_of r11) 0 out out
   unfolding number_of
   asked-none l = let e : not (leb 1 i && leb i n) ≡ true = rw (lt-leb 1 i l) in test-refused _ r11 out e refl refl
 
-  pub asked-past : 1 ≤ i → n < i → Gives (asked n i (length out) s) 11 0 out out
+  pub asked-past : 1 ≤ i → n < i → Gives (asked n i (length out) s) (number_of r11) 0 out out
   unfolding number_of
   asked-past b l = let e : not (leb 1 i && leb i n) ≡ true = rw (le-leb 1 i b, lt-leb i n l) in test-refused _ r11 out e refl refl
 

@@ -1,6 +1,6 @@
 -- The entries of the firmware over a table of marks, which C passes as bytes: what their contracts say, and that the calls on the table by
 -- value meet it.
-use Rattle.std.specs.Prelude.{ℕ, ◌≡◌, true, List, [], length}
+use Rattle.std.specs.Prelude.{ℕ, ◌≡◌, true, List, [], length, Result as Tried}
 use Rattle.std.proofs.Common.{arith, ◌∙◌, subst}
 use Rattle.std.proofs.Math.Path.{refl, sym, ap}
 use Rattle.std.proofs.Math.Bool.{false}
@@ -8,10 +8,11 @@ use Rattle.std.proofs.Math.Dec.{eqb}
 use borrow.Author.Tests.{eqb-true, eqb-false, ne_eqb}
 use Rattle.xml.specs.Bytes.{Bytes}
 use Rattle.xml.specs.Truth.{by-test}
+use Rattle.keys.specs.Meant.{number_in, length_in}
+use Rattle.keys.specs.declared.refusal.Refusal.{Refusal as Cause}
 use Rattle.keys.specs.Result.{Refusal, Result, number_of, refused, ok, ◌>>=◌, ◌>>◌, r17}
 use Rattle.marks.specs.declared.Mark.{Mark}
 use Rattle.marks.specs.declared.Table.{Table}
-use Rattle.marks.specs.declared.change.Found.{Found}
 use Rattle.marks.specs.Marks.{marks_in, is_table, legal_name, find, setting, table_bytes, table_in}
 use Rattle.marks.specs.Passed.{LendsAs}
 use Rattle.marks.specs.BytesLaws.{table-short}
@@ -48,8 +49,12 @@ bytes-kept number held s z = rw (ne_eqb number 0 z, bytes_left) refl
 pub bytes-put : (number : ℕ) (held : List Mark) (s : Bytes) {bytes : Bytes} → number ≡ 0 → bytes ≡ table_bytes held → bytes ≡ bytes_left number held s
 bytes-put number held s z e = rw z e
 
-pub told-as : {m : Marked} {out : List ℕ} {s : Bytes} {number k size : ℕ} {left : List ℕ} {bytes now : Bytes} → number ≡ k → now ≡ bytes → ToldTable m out s k size left bytes → ToldTable m out s number size left now
-told-as e f t = rw (e, f) t
+pub told-as : {m : Marked} {out : List ℕ} {s : Bytes} {number k size n : ℕ} {left : List ℕ} {bytes now : Bytes} → number ≡ k → size ≡ n → now ≡ bytes → ToldTable m out s k n left bytes
+    → ToldTable m out s number size left now
+told-as e g f t = rw (e, g, f) t
+
+pub found-by : {f : FoundMark} {number k version n size : ℕ} → number ≡ k → version ≡ n → ToldFound f k n size → ToldFound f number version size
+found-by e g t = rw (e, g) t
 
 -- ---- a call that depends on the marks of the table alone, and is refused where there are none to be read
 pub record ByMarks (call : List Mark → Marked) : Type 0 where
@@ -139,11 +144,11 @@ module _ (keys archive : Bytes) where
   find-is a b name h =
       sym (finds_mark keys archive a name 16384) ∙ ap (λ R. found_mark (room 16384 >> R)) (bind-by (count_on keys archive) (λ n. finding-by n a b name (h n))) ∙ finds_mark keys archive b name 16384
 
-  pub find-told : (s : Bytes) (t : Table) (name : Bytes) {r : Found} → LendsAs s t → FoundAs keys archive t.held name r
-      → ToldFound (find_mark keys archive (table_in s) name 16384) r.number r.version r.length
+  pub find-told : (s : Bytes) (t : Table) (name : Bytes) {r : Tried ℕ Cause} → LendsAs s t → FoundAs keys archive t.held name r
+      → ToldFound (find_mark keys archive (table_in s) name 16384) (number_in r) (length_in r) 0
   find-told s t name l f =
       let e = find-is t.held (table_in s) name l.whole in
-      record { number_is = f.number_is ∙ ap (λ m. m.answer.number) e; version-is = f.version-is ∙ ap (λ m. m.version) e; size_is = f.size_is }
+      record { number_is = f.number_is ∙ ap (λ m. m.answer.number) e; version-is = f.version-is ∙ ap (λ m. m.version) e; size_is = refl }
 
 -- the table by value is read the same, whole and as far as its size says
 pub lends-whole : (s : Bytes) (t : Table) → LendsAs s t → Whole t

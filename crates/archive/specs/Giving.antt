@@ -9,13 +9,15 @@ use borrow.Author.Tests.{lt-ltb, le-ltb, ltb-true, ltb-false}
 use Rattle.xml.specs.Bytes.{Bytes}
 use Rattle.xml.specs.Over.{over, Wrote}
 use Rattle.xml.specs.OverLaws.{wrote-over}
-use Rattle.keys.specs.Result.{Refusal, Result, number_of, refused, ok, ◌>>=◌, ◌>>◌, refuse, r2, r3, r4, r14}
+use Rattle.keys.specs.Result.{Refusal, Result, number_of, refused, ok, ◌>>=◌, ◌>>◌, refuse, r1, r14}
 use Rattle.keys.specs.KeyList.{KeyList, key_list}
 use Rattle.keys.specs.Version.{version}
 use Rattle.xml.specs.Forest.{Forest}
 use Rattle.marks.specs.declared.Mark.{Mark}
 use Rattle.versions.specs.Calls.{Answer, answer, Marked, room, at_most, give, out_after, work_after}
+use Rattle.versions.specs.Walk.{archive_read}
 use Rattle.archive.specs.Reception.{SentBack}
+use Rattle.archive.specs.FirstSteps.{room-1, long-later, keys-later, archive-later}
 
 -- an answer and an output are what the steps give; 1 is not among them
 pub record Gives (x : Result Bytes) (number size : ℕ) (out left : List ℕ) : Type 0 where
@@ -32,7 +34,7 @@ pub gives-refused : {x : Result Bytes} {number : ℕ} (w : Refusal) (out : List 
 unfolding answer out_after
 gives-refused w out e n l = gives_same e (record { number_is = n; size_is = refl; out-is = refl; later = l })
 
-gives-ok : {x : Result Bytes} {n : ℕ} {out left : List ℕ} (s : Bytes) → x ≡ ok s → n ≡ length s → n ≤ length out → left ≡ over out s → Gives x 0 n out left
+pub gives-ok : {x : Result Bytes} {n : ℕ} {out left : List ℕ} (s : Bytes) → x ≡ ok s → n ≡ length s → n ≤ length out → left ≡ over out s → Gives x 0 n out left
 unfolding answer out_after over
 gives-ok {out = out} s e h l o =
     gives_same e (record { number_is = refl; size_is = h; out-is = o ∙ ap (λ t. t ++ drop (length s) out) (take_all (length out) s (omega arith)); later = refl })
@@ -56,31 +58,26 @@ module _ (x : Result Bytes) {b : Bool} (w : Refusal) where
 
 -- ---- 2: a text's length
 module _ (x : Result Bytes) (n : ℕ) (s : Bytes) where
-  pub too_long : (out : List ℕ) → n < length s → Gives (at_most n s >> x) 2 0 out out
-  unfolding at_most number_of
-  too_long out l = test-refused x r2 out (lt-ltb n (length s) l) refl refl
+  pub too_long : {w : Refusal} (out : List ℕ) → refused w ≡ at_most n s → Gives (at_most n s >> x) (number_of w) 0 out out
+  too_long {w} out e = gives-refused w out (ap (λ z. z >> x) (sym e)) refl (long-later n s e)
 
-  pub not-long : {number size : ℕ} {out left : List ℕ} → length s ≤ n → Gives x number size out left → Gives (at_most n s >> x) number size out left
-  unfolding at_most
-  not-long l g = test-passed x r2 (le-ltb n (length s) l) g
+  pub not-long : {number size : ℕ} {out left : List ℕ} → ok tt ≡ at_most n s → Gives x number size out left → Gives (at_most n s >> x) number size out left
+  not-long e g = gives_same (ap (λ z. z >> x) (sym e)) g
 
--- ---- 3, 4: the key list
-module _ (g : KeyList → Result Bytes) (keys : Bytes) (out : List ℕ) where
-  pub keys-3 : key_list keys ≡ refused r3 → Gives (key_list keys >>= g) 3 0 out out
-  unfolding number_of
-  keys-3 e = step-refused g r3 out e refl refl
+-- ---- 3, 4: the key list; 5 to 9: a version sent back; 10: the archive
+pub keys-back : {w : Refusal} (g : KeyList → Result Bytes) (keys : Bytes) (out : List ℕ) → key_list keys ≡ refused w → Gives (key_list keys >>= g) (number_of w) 0 out out
+keys-back {w} g keys out e = step-refused g w out e refl (keys-later keys e)
 
-  pub keys-4 : key_list keys ≡ refused r4 → Gives (key_list keys >>= g) 4 0 out out
-  unfolding number_of
-  keys-4 e = step-refused g r4 out e refl refl
+pub version-back : {K : KeyList} {src : Bytes} {w : Refusal} (g : Forest → Result Bytes) (out : List ℕ) → SentBack K src w → Gives (version K src >>= g) (number_of w) 0 out out
+version-back {w = w} g out b = step-refused g w out b.is refl b.later
 
--- ---- 5 to 9: a version sent back
-pub version-back : {K : KeyList} {src : Bytes} (g : Forest → Result Bytes) {number : ℕ} (out : List ℕ) → SentBack K src number → Gives (version K src >>= g) number 0 out out
-version-back g out b = step-refused g b.row out b.is b.number_is b.later
+pub archive-back : {w : Refusal} (K : KeyList) (src : Bytes) (g : Forest → Result Bytes) (out : List ℕ) → archive_read K src ≡ refused w
+    → Gives (archive_read K src >>= g) (number_of w) 0 out out
+archive-back {w} K src g out e = step-refused g w out e refl (archive-later K src e)
 
 -- ---- giving the text
 module _ (s : Bytes) (out : List ℕ) {count : ℕ} (h : count ≡ length s) where
-  pub give-short : length out < count → Gives (give (length out) s) 14 0 out out
+  pub give-short : length out < count → Gives (give (length out) s) (number_of r14) 0 out out
   unfolding give number_of
   give-short l = test-refused (ok s) r14 out (lt-ltb (length out) (length s) (omega arith)) refl refl
 
@@ -90,7 +87,7 @@ module _ (s : Bytes) (out : List ℕ) {count : ℕ} (h : count ≡ length s) whe
 
 -- by whether the output lacks room for it
 module _ (s : Bytes) (out : List ℕ) {lacks : Bool} (h : lacks ≡ ltb (length out) (length s)) where
-  pub give-lacks : lacks ≡ true → Gives (give (length out) s) 14 0 out out
+  pub give-lacks : lacks ≡ true → Gives (give (length out) s) (number_of r14) 0 out out
   give-lacks e = give-short s out refl (ltb-true (length out) (length s) (sym h ∙ e))
 
   pub give-fits : {count : ℕ} {left : List ℕ} → lacks ≡ false → Wrote out 0 s count left → Gives (give (length out) s) 0 count out left
@@ -104,6 +101,9 @@ pub record Told (a : Answer) (out : List ℕ) (number size : ℕ) (left : List �
   pub number_is : number ≡ a.number
   pub size_is : size ≡ length a.bytes
   pub out-is : left ≡ out_after a out
+
+pub told-by : {a : Answer} {out : List ℕ} {number size n k : ℕ} {left : List ℕ} → number ≡ n → size ≡ k → Told a out n k left → Told a out number size left
+told-by e f t = rw (e, f) t
 
 -- where 16,384 cells are lent, 1 does not hold, and the answer is what the later steps give
 pub gives-told : (x : Result Bytes) (a : Answer) (out : List ℕ) → a ≡ answer (room 16384 >> x) → {number size : ℕ} {left : List ℕ} → Gives x number size out left
@@ -142,19 +142,18 @@ clear-after a work e = rw (e, work_after) refl
 
 module _ (x : Result Bytes) (a : Answer) (out work : List ℕ) (z : a ≡ answer (room (length work) >> x)) where
   -- 1: the work cells are too few
-  pub ends-1 : length work < 16384 → Ends a out work 1 0 out work
-  unfolding room answer number_of out_after work_after
-  ends-1 l =
-      let t = lt-ltb (length work) 16384 l in
-      let y : a ≡ record { number = 1; bytes = [] } = z ∙ rw t in
-      subst (λ b. Ends b out work 1 0 out work) (sym y) (record { number_is = refl; size_is = refl; out-is = refl; work-is = refl })
+  pub ends-1 : {w : Refusal} → refused w ≡ room (length work) → Ends a out work (number_of w) 0 out work
+  unfolding answer number_of out_after work_after
+  ends-1 {w} e =
+      let q : w ≡ r1 = (room-1 (length work) e).0 in
+      let y : a ≡ record { number = 1; bytes = [] } = z ∙ ap (λ r. answer (r >> x)) (sym e) ∙ rw q refl in
+      subst (λ b. Ends b out work (number_of w) 0 out work) (sym y) (record { number_is = rw q refl; size_is = refl; out-is = refl; work-is = refl })
 
   -- they are not, and were cleared
-  pub ends : {number size : ℕ} {left cells : List ℕ} → 16384 ≤ length work → Gives x number size out left → (k : ℕ) → k ≡ length work → cells ≡ replicate k 0
+  pub ends : {number size : ℕ} {left cells : List ℕ} → ok tt ≡ room (length work) → Gives x number size out left → (k : ℕ) → k ≡ length work → cells ≡ replicate k 0
       → Ends a out work number size left cells
-  unfolding room
-  ends {number} {size} {left} {cells} l g k q w =
-      let y : a ≡ answer x = z ∙ rw (le-ltb (length work) 16384 l) in
+  ends {number} {size} {left} {cells} e g k q w =
+      let y : a ≡ answer x = z ∙ ap (λ r. answer (r >> x)) (sym e) in
       let n : number ≡ a.number = g.number_is ∙ ap (λ b. b.number) (sym y) in
       record {
         number_is = n;

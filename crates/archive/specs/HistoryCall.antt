@@ -1,5 +1,5 @@
 -- The call that gives a history: its steps, and what they ask and say.
-use Rattle.std.specs.Prelude.{ℕ, ◌≡◌, refl, true, List, length}
+use Rattle.std.specs.Prelude.{Option, None, Some, ℕ, ◌≡◌, refl, true, List, length}
 use Rattle.std.proofs.Common.{arith, sym}
 use Rattle.xml.specs.Bytes.{Bytes}
 use Rattle.xml.specs.Forest.{Forest}
@@ -9,7 +9,7 @@ use Rattle.keys.specs.KeyList.{KeyList, key_list}
 use Rattle.keys.specs.Table.{Table}
 use Rattle.keys.specs.Loading.{Tabled}
 use Rattle.keys.specs.Address.{address}
-use Rattle.keys.specs.AddressParts.{ParsedAs}
+use Rattle.keys.specs.AddressParts.{AddressParsed, parsed-is}
 use Rattle.keys.specs.declared.address.Parsed.{Parsed}
 use Rattle.versions.specs.Calls.{answer, room, at_most, give, history}
 use Rattle.versions.specs.Walk.{forest_legal, archive_read, history_forest, history_on}
@@ -58,28 +58,30 @@ module _ {text : Bytes} {table : List ℕ} {paths : ℕ} {src cells : List ℕ} 
       record { key_list = t.keys; tabled = t.table; forest = a.forest; tape = a.tape; legal = a.legal }
 
   -- what an accepted address asks
-  pub history-asked : {place : Bytes} {r : Parsed} {values : List (List ℕ)} → ((K : KeyList) → Table text table paths K → ParsedAs K place r values)
-      → SomeArchive text table paths src cells hi → (r.count ≡ 0 → ⊥) → HistoryAsked text table paths place r values src cells hi
-  history-asked p a z =
+  pub history-asked : {place : Bytes} {x : Option Parsed} {r : Parsed} {values : List (List ℕ)} → ((K : KeyList) → Table text table paths K → AddressParsed K place x values)
+      → SomeArchive text table paths src cells hi → x ≡ Some r → HistoryAsked text table paths place r values src cells hi
+  history-asked {place} {x} {r} {values} p a z =
+      let y : AddressParsed a.key_list place (Some r) values = parsed-is a.key_list place values (p a.key_list a.tabled) z in
       record {
         key_list = a.key_list;
         tabled = a.tabled;
-        parsed = p a.key_list a.tabled;
-        some-step = omega arith;
+        parsed = y.1;
+        some-step = y.0;
         forest = a.forest;
         tape = a.tape;
         legal = a.legal;
       }
 
   -- and its steps taken
-  pub history-found : {K : KeyList} {f : Forest} {place : Bytes} {r : Parsed} {values : List (List ℕ)} {number size : ℕ} {out left : List ℕ} → ParsedAs K place r values → (r.count ≡ 0 → ⊥)
+  pub history-found : (K : KeyList) (place : Bytes) (values : List (List ℕ)) {f : Forest} {x : Option Parsed} {r : Parsed} {number size : ℕ} {out left : List ℕ} → AddressParsed K place x values → x ≡ Some r
       → Table text table paths K → Tape src cells 0 hi f → OfHistory text table paths place src cells hi (λ w. Gives (give (length out) w) number size out left)
       → Gives (history_for K place (length out) f) number size out left
-  history-found {K} {f} p z t h x =
-      let s = p.accepted-as (omega arith) in
+  history-found K place values {f} {r = r} p z t h x =
+      let y : AddressParsed K place (Some r) values = parsed-is K place values p z in
+      let s = y.1.accepted-as y.0 in
       step_ok _ s.steps s.accepted (x K f s.steps t h s.accepted)
 
 -- 12: the address
-pub history-12 : {K : KeyList} {place : Bytes} {r : Parsed} {values : List (List ℕ)} (f : Forest) (out : List ℕ) → ParsedAs K place r values → r.count ≡ 0 → Gives (history_for K place (length out) f) 12 0 out out
+pub history-12 : (K : KeyList) (place : Bytes) (values : List (List ℕ)) {x : Option Parsed} (f : Forest) (out : List ℕ) → AddressParsed K place x values → x ≡ None → Gives (history_for K place (length out) f) (number_of r12) 0 out out
 unfolding number_of
-history-12 f out p z = step-refused _ r12 out (p.refused_as z) refl refl
+history-12 K place values f out p z = step-refused _ r12 out (parsed-is K place values p z) refl refl

@@ -1,9 +1,9 @@
 pub mod Reception
 pub mod CheckLaws
+pub mod FirstSteps
 pub mod Giving
 pub mod Founding
 pub mod FoundLaws
-pub mod OpenedLaws
 pub mod Asking
 pub mod Later
 pub mod Opening

@@ -1,19 +1,18 @@
 -- The calls over a table of marks: what the contracts of their parts and their own say, and that the parts make the whole.
-use Rattle.std.specs.Prelude.{ℕ, ◌<◌, ◌≤◌, ◌≡◌, false, eqb}
-use Rattle.std.proofs.Common.{arith, ◌∙◌, lit≤, lt-ltb, le-ltb, ne_eqb}
+use Rattle.std.specs.Prelude.{ℕ, ◌≤◌, ◌≡◌, Result as Tried, Ok, Err, IfOk}
+use Rattle.std.proofs.Common.{arith, ◌∙◌}
 use Rattle.std.proofs.Math.Path.{refl, sym, ap, subst}
 use mathlib.Core.List.{List, []}
 use Rattle.std.proofs.Math.ListN.{length, replicate}
 use Rattle.xml.specs.Bytes.{Bytes}
 use Rattle.keys.specs.Result.{Refusal, Result, number_of, refused, ok, ◌>>=◌, ◌>>◌, r1}
+use Rattle.keys.specs.Meant.{row_of, meant, number_in, length_in}
+use Rattle.keys.specs.declared.refusal.Refusal.{Refusal as Cause}
 use Rattle.keys.specs.ResultLaws.{refused-ok, ok-inj}
 use Rattle.marks.specs.declared.Mark.{Mark}
-use Rattle.marks.specs.declared.change.Found.{Found}
 use Rattle.marks.specs.Marks.{Named, entries, marks_in, legal_name, find, setting, finding, dropping, number, marks_after}
-use Rattle.marks.specs.Judging.{lent_of}
-use Rattle.marks.specs.Lent.{table_of}
-use Rattle.marks.specs.Changing.{found_by, number_after, table_after, found_after}
-use Rattle.marks.specs.AfterLaws.{lent_is, dropping-by}
+use Rattle.marks.specs.Changing.{version_in, done, setting_after, finding_after}
+use Rattle.marks.specs.AfterLaws.{dropping-by}
 use Rattle.versions.specs.Archive.{last_version}
 use Rattle.versions.specs.Calls.{Answer, answer, room, Given, Marked, marked, FoundMark, found_mark, set_mark, find_mark, step_back, step_back_to_mark, out_after, work_after}
 use Rattle.versions.specs.CallLaws.{number_of-pos}
@@ -22,8 +21,9 @@ use Rattle.versions.specs.WalkLaws.{then-bind, sets_mark, finds_mark}
 use Rattle.archive.specs.declared.back.Back.{Back}
 use Rattle.archive.specs.Giving.{Told, EndsMarked, ends-told}
 use Rattle.archive.specs.Later.{Later, setting-later, finding-later}
-use Rattle.archive.specs.Opening.{OpenedAs, sent_back, on-tape}
-use Rattle.archive.specs.BackCall.{Steps, refusing, steps-same, steps-refused, back_in, named_in, back-steps, named-steps}
+use Rattle.archive.specs.FirstSteps.{room-1}
+use Rattle.archive.specs.Opening.{OpenedOn, NotOpened}
+use Rattle.archive.specs.BackCall.{Steps, steps-same, steps-refused, back_in, named_in, back-steps, named-steps}
 
 -- the cells that a call leaves which answers this number
 abbrev cells_after : ℕ → List ℕ → List ℕ
@@ -37,39 +37,52 @@ cells-later : (a b : ℕ) (work : List ℕ) → Later a → Later b → cells_af
 unfolding work_after
 cells-later a b work x y = rw (x, y, work_after) refl
 
--- ---- counting the versions
-pub record Counts (keys archive : Bytes) (work : List ℕ) (n versions : ℕ) (cells : List ℕ) : Type 0 where
-  pub number_is : n ≡ number (room (length work) >> count_on keys archive)
-  pub counted : (k : ℕ) → (room (length work) >> count_on keys archive) ≡ ok k → versions ≡ k
-  pub few : versions ≤ 999
-  pub work-is : cells ≡ cells_after n work
+-- ---- a result of the program that is one of the definitions
+meant-refused : (r : Tried ℕ Cause) {w : Refusal} → meant r ≡ refused w → (number_in r ≡ number_of w) × (length_in r ≡ 0)
+meant-refused (Ok n) e = refused-ok (sym e)
+meant-refused (Err v) {w} e = let x : row_of v ≡ w = cc in (ap number_of x, refl)
 
-pub counts-few : {keys archive : Bytes} {work : List ℕ} {n versions : ℕ} {cells : List ℕ} → Counts keys archive work n versions cells → versions ≤ 999
-counts-few c = c.few
+meant-ok : (r : Tried ℕ Cause) {k : ℕ} → meant r ≡ ok k → (number_in r ≡ 0) × (length_in r ≡ k)
+meant-ok (Ok n) e = (refl, ok-inj e)
+meant-ok (Err v) e = refused-ok e
 
-pub counts-1 : (keys archive : Bytes) (work : List ℕ) → length work < 16384 → Counts keys archive work 1 0 work
-unfolding room number number_of work_after
-counts-1 keys archive work l =
-    let t = lt-ltb (length work) 16384 l in
-    record { number_is = rw t refl; counted = λ k e. refused-ok (rw t at e); few = lit≤ tt; work-is = refl }
+meant-number : (r : Tried ℕ Cause) → number_in r ≡ number (meant r)
+unfolding number
+meant-number (Ok n) = refl
+meant-number (Err v) = refl
 
-module _ (keys archive : Bytes) (work : List ℕ) (l : 16384 ≤ length work) (k : ℕ) (q : k ≡ length work) where
-  roomy : room (length work) ≡ ok tt
-  unfolding room
-  roomy = rw (le-ltb (length work) 16384 l)
+-- ---- counting the versions: with room to work in, and with the test for it
+pub record CountedIn (keys archive : Bytes) (r : Tried ℕ Cause) : Type 0 where
+  pub is : meant r ≡ count_on keys archive
+  pub few : IfOk r (λ n. n ≤ 999)
+  pub later : Later (number_in r)
 
-  cleared : (n : ℕ) {cells : List ℕ} → Later n → cells ≡ replicate k 0 → cells ≡ cells_after n work
-  unfolding work_after
-  cleared n x w = w ∙ ap (λ j. replicate j 0) q ∙ sym (rw (x, work_after) refl)
+pub record Counts (keys archive : Bytes) (work : List ℕ) (r : Tried ℕ Cause) (cells : List ℕ) : Type 0 where
+  pub is : meant r ≡ (room (length work) >> count_on keys archive)
+  pub few : IfOk r (λ n. n ≤ 999)
+  pub work-is : cells ≡ cells_after (number_in r) work
 
-  pub counts_all : {cells left : List ℕ} {n hi versions : ℕ} → OpenedAs keys archive cells n hi versions → left ≡ replicate k 0 → Counts keys archive work n versions left
-  unfolding count_on number
-  counts_all {n = n} (sent_back w e z y f) x = record { number_is = rw (roomy, e) z; counted = λ j d. refused-ok (rw (roomy, e) at d); few = f; work-is = cleared n y x }
-  counts_all {n = n} (on-tape g e z lies tape last f) x = record { number_is = rw (roomy, e) z; counted = λ j d. sym last ∙ ok-inj (rw (roomy, e) at d); few = f; work-is = cleared n (rw z refl) x }
+module _ (keys archive : Bytes) where
+  pub counted-in : {cells : List ℕ} {hi n : ℕ} → OpenedOn keys archive cells hi n → CountedIn keys archive (Ok n)
+  unfolding count_on
+  counted-in o = record { is = sym (rw o.is (ap ok o.last)); few = o.few; later = refl }
 
--- a refusal's number is not 0
-refused-not : (before : ℕ) (w : Refusal) → before ≡ number_of w → eqb before 0 ≡ false
-refused-not before w e = ne_eqb before 0 (λ z. omega (arith, number_of-pos w))
+  pub uncounted : {v : Cause} → NotOpened keys archive (row_of v) → CountedIn keys archive (Err v)
+  unfolding count_on
+  uncounted o = record { is = sym (rw o.is refl); few = tt; later = o.later }
+
+  module _ (work : List ℕ) where
+    pub counts-1 : {v : Cause} → refused (row_of v) ≡ room (length work) → Counts keys archive work (Err v) work
+    unfolding work_after number_of
+    counts-1 {v} e =
+        let q : row_of v ≡ r1 = (room-1 (length work) e).0 in
+        record { is = ap (λ R. R >> count_on keys archive) e; few = tt; work-is = rw q refl }
+
+    pub counts_all : {r : Tried ℕ Cause} {left : List ℕ} → ok tt ≡ room (length work) → CountedIn keys archive r → (k : ℕ) → k ≡ length work → left ≡ replicate k 0 → Counts keys archive work r left
+    unfolding work_after
+    counts_all {r} e c k q w =
+        let y = c.later in
+        record { is = c.is ∙ ap (λ R. R >> count_on keys archive) e; few = c.few; work-is = w ∙ ap (λ j. replicate j 0) q ∙ sym (rw (y, work_after) refl) }
 
 -- ---- setting a mark: number and length, work cells, and the table left
 abbrev pub SetEnds : (keys archive : Bytes) (table : List Mark) (name : Bytes) (i : ℕ) (work : List ℕ) (number size : ℕ) (cells : List ℕ) (left : List Mark) → Type 0
@@ -97,79 +110,85 @@ module _ (table : List Mark) (work : List ℕ) (S : ℕ → Result (List Named))
       let y : Later n = subst Later (sym (e ∙ ap number x)) (late k) in
       subst (EndsMarked (marked table (refused w)) [] work n 0 [] cells) (sym l) (set-refused w e (c ∙ cells-later 0 n work refl y))
 
-  set-by : (R : Result ℕ) (before versions : ℕ) {n : ℕ} {cells : List ℕ} {left : List Mark} → before ≡ number R → ((k : ℕ) → R ≡ ok k → versions ≡ k) → cells ≡ cells_after before work
-      → n ≡ number_after before (S versions) → left ≡ table_after before (S versions) table → EndsMarked (marked table (R >>= sets)) [] work n 0 [] cells left
-  unfolding number number_after table_after
-  set-by (refused w) before versions {n} {cells} b v c e l =
-      let z = refused-not before w b in
-      let x : n ≡ before = rw (z, number_after) at e in
-      let y : _ ≡ table = rw (z, table_after) at l in
-      subst (EndsMarked (marked table (refused w)) [] work n 0 [] cells) (sym y) (set-refused w (x ∙ b) (c ∙ ap (λ j. cells_after j work) (sym x)))
-  set-by (ok k) before versions b v c e l =
-      set_there k (S k) refl (c ∙ ap (λ j. cells_after j work) b) (rw (b, v k refl) at e) (rw (b, v k refl) at l)
+  set-by : (R : Result ℕ) {n : ℕ} {cells : List ℕ} {left : List Mark} → cells ≡ cells_after (number R) work → n ≡ number (R >>= S) → left ≡ marks_after (R >>= S) table
+      → EndsMarked (marked table (R >>= sets)) [] work n 0 [] cells left
+  unfolding number marks_after
+  set-by (refused w) {n} {cells} c e l = subst (EndsMarked (marked table (refused w)) [] work n 0 [] cells) (sym l) (set-refused w e (c ∙ ap (λ j. cells_after j work) (sym e)))
+  set-by (ok k) c e l = set_there k (S k) refl c e l
 
-pub set-ends : (keys archive : Bytes) (table : List Mark) (name : Bytes) (i : ℕ) (work : List ℕ) (before versions : ℕ) (cells : List ℕ) → Counts keys archive work before versions cells
-    → (n : ℕ) (left : List Mark) → n ≡ number_after before (setting versions table name i) → left ≡ table_after before (setting versions table name i) table
-    → SetEnds keys archive table name i work n 0 cells left
+pub set-ends : (keys archive : Bytes) (table : List Mark) (name : Bytes) (i : ℕ) (work : List ℕ) (r : Tried ℕ Cause) (cells : List ℕ) → Counts keys archive work r cells
+    → (n : ℕ) (left : List Mark) → n ≡ number (setting_after r table name i) → left ≡ marks_after (setting_after r table name i) table → SetEnds keys archive table name i work n 0 cells left
 unfolding set_mark_on
-set-ends keys archive table name i work before versions cells c n left e l =
+set-ends keys archive table name i work r cells c n left e l =
     let R = room (length work) >> count_on keys archive in
-    let m : set_mark keys archive table name i (length work) ≡ marked table (R >>= sets table work (λ k. setting k table name i) (λ k. setting-later k table name i)) =
+    let S : ℕ → Result (List Named) = λ k. setting k table name i in
+    let m : set_mark keys archive table name i (length work) ≡ marked table (R >>= sets table work S (λ k. setting-later k table name i)) =
     sym (sets_mark keys archive table name i (length work)) ∙ ap (marked table) (sym (then-bind (room (length work)) (count_on keys archive) _)) in
     subst (λ y. EndsMarked y [] work n 0 [] cells left) (sym m)
-    (set-by table work (λ k. setting k table name i) (λ k. setting-later k table name i) R before versions c.number_is c.counted c.work-is e l)
+    (set-by table work S (λ k. setting-later k table name i) R
+    (c.work-is ∙ ap (λ j. cells_after j work) (meant-number r ∙ ap number c.is)) (e ∙ ap (λ Q. number (Q >>= S)) c.is) (l ∙ ap (λ Q. marks_after (Q >>= S) table) c.is))
 
--- ---- finding a mark: number and length, the version, and the work cells
-pub record FindEnds (keys archive : Bytes) (table : List Mark) (name : Bytes) (work : List ℕ) (r : Found) (cells : List ℕ) : Type 0 where
-  pub number_is : r.number ≡ (find_mark keys archive table name (length work)).answer.number
-  pub size_is : r.length ≡ 0
-  pub version-is : r.version ≡ (find_mark keys archive table name (length work)).version
+-- the number of what is done, or refused
+pub set_done : (X : Result (List Named)) {u : Unit {0}} → ok u ≡ done X → 0 ≡ number X
+unfolding number
+set_done (ok ks) e = refl
+set_done (refused w) e = refused-ok (sym e)
+
+pub set_refused : (X : Result (List Named)) {w : Refusal} → refused w ≡ done X → number_of w ≡ number X
+unfolding number
+set_refused (ok ks) e = refused-ok e
+set_refused (refused v) {w} e = let x : w ≡ v = cc in ap number_of x
+
+-- ---- finding a mark: the number, the version, and the work cells
+pub record FindEnds (keys archive : Bytes) (table : List Mark) (name : Bytes) (work : List ℕ) (r : Tried ℕ Cause) (cells : List ℕ) : Type 0 where
+  pub number_is : number_in r ≡ (find_mark keys archive table name (length work)).answer.number
+  pub version-is : length_in r ≡ (find_mark keys archive table name (length work)).version
   pub work-is : cells ≡ work_after (find_mark keys archive table name (length work)).answer work
 
 module _ (work : List ℕ) (S : ℕ → Result Named) (late : (k : ℕ) → Later (number (S k))) where
   -- what `FindEnds` says, of any answer
-  record Finds (m : FoundMark) (r : Found) (cells : List ℕ) : Type 0 where
-    number_is : r.number ≡ m.answer.number
-    size_is : r.length ≡ 0
-    version-is : r.version ≡ m.version
+  record Finds (m : FoundMark) (r : Tried ℕ Cause) (cells : List ℕ) : Type 0 where
+    number_is : number_in r ≡ m.answer.number
+    version-is : length_in r ≡ m.version
     work-is : cells ≡ work_after m.answer work
 
-  find-there : (k : ℕ) {r : Found} {cells : List ℕ} (X : Result Named) → X ≡ S k → cells ≡ cells_after 0 work → r ≡ found_by X → Finds (found_mark X) r cells
+  find-refused : {r : Tried ℕ Cause} {cells : List ℕ} (w : Refusal) → meant r ≡ refused w → cells ≡ cells_after (number_of w) work → Finds (found_mark (refused w)) r cells
+  unfolding found_mark answer
+  find-refused {r} w e c = let p = meant-refused r e in record { number_is = p.0; version-is = p.1; work-is = c }
+
+  find-there : (k : ℕ) {r : Tried ℕ Cause} {cells : List ℕ} (X : Result Named) → X ≡ S k → cells ≡ cells_after 0 work → meant r ≡ version_in X → Finds (found_mark X) r cells
   unfolding found_mark answer number
-  find-there k (ok a) x c e = rw e (record { number_is = refl; size_is = refl; version-is = refl; work-is = c })
-  find-there k (refused w) x c e =
-      rw e (record { number_is = refl; size_is = refl; version-is = refl; work-is = c ∙ cells-later 0 (number_of w) work refl (subst (λ z. Later (number z)) (sym x) (late k)) })
+  find-there k {r} (ok a) x c e = let p = meant-ok r e in record { number_is = p.0; version-is = p.1; work-is = c }
+  find-there k (refused w) x c e = find-refused w e (c ∙ cells-later 0 (number_of w) work refl (subst (λ z. Later (number z)) (sym x) (late k)))
 
-  find-by : (R : Result ℕ) (before versions : ℕ) {r : Found} {cells : List ℕ} → before ≡ number R → ((k : ℕ) → R ≡ ok k → versions ≡ k) → cells ≡ cells_after before work
-      → r ≡ found_after before (S versions) → Finds (found_mark (R >>= S)) r cells
-  unfolding number found_mark answer found_after
-  find-by (refused w) before versions {r} b v c e =
-      let x : r ≡ record { number = before; length = 0; version = 0 } = rw (refused-not before w b, found_after) at e in
-      rw x (record { number_is = b; size_is = refl; version-is = refl; work-is = c ∙ ap (λ j. cells_after j work) b })
-  find-by (ok k) before versions b v c e = find-there k (S k) refl (c ∙ ap (λ j. cells_after j work) b) (rw (b, v k refl) at e)
+  find-by : (R : Result ℕ) {r : Tried ℕ Cause} {cells : List ℕ} → cells ≡ cells_after (number R) work → meant r ≡ version_in (R >>= S) → Finds (found_mark (R >>= S)) r cells
+  unfolding number
+  find-by (refused w) c e = find-refused w e c
+  find-by (ok k) c e = find-there k (S k) refl c e
 
-pub find-ends : (keys archive : Bytes) (table : List Mark) (name : Bytes) (work : List ℕ) (before versions : ℕ) (cells : List ℕ) → Counts keys archive work before versions cells
-    → (r : Found) → r ≡ found_after before (finding versions table name) → FindEnds keys archive table name work r cells
+pub find-ends : (keys archive : Bytes) (table : List Mark) (name : Bytes) (work : List ℕ) (r : Tried ℕ Cause) (cells : List ℕ) → Counts keys archive work r cells
+    → (q : Tried ℕ Cause) → meant q ≡ version_in (finding_after r table name) → FindEnds keys archive table name work q cells
 unfolding find_mark_on
-find-ends keys archive table name work before versions cells c r e =
+find-ends keys archive table name work r cells c q e =
     let S : ℕ → Result Named = λ k. finding k table name in
     let late : (k : ℕ) → Later (number (S k)) = λ k. finding-later k table name in
     let R = room (length work) >> count_on keys archive in
     let m : find_mark keys archive table name (length work) ≡ found_mark (R >>= S) =
     sym (finds_mark keys archive table name (length work)) ∙ ap found_mark (sym (then-bind (room (length work)) (count_on keys archive) _)) in
-    let f = subst (λ y. Finds work S late y r cells) (sym m) (find-by work S late R before versions c.number_is c.counted c.work-is e) in
-    record { number_is = f.number_is; size_is = f.size_is; version-is = f.version-is; work-is = f.work-is }
+    let f = subst (λ y. Finds work S late y q cells) (sym m)
+    (find-by work S late R (c.work-is ∙ ap (λ j. cells_after j work) (meant-number r ∙ ap number c.is)) (e ∙ ap (λ Q. version_in (Q >>= S)) c.is)) in
+    record { number_is = f.number_is; version-is = f.version-is; work-is = f.work-is }
 
 -- ---- stepping back
 -- on a table by value that is left as it is, with the steps X after the first
-pub record StepsOn (X : Result Given) (table : List Mark) (out work : List ℕ) (r : Back) (left cells : List ℕ) : Type 0 where
+pub record StepsOn (X : Result Given) (table : List Mark) (out work : List ℕ) (r : Tried Back Cause) (left cells : List ℕ) : Type 0 where
   pub steps : Steps (room (length work) >> X) table r out left
-  pub work-is : cells ≡ cells_after r.number work
+  pub work-is : cells ≡ cells_after (number_in r) work
 
-abbrev pub BackSteps : (keys archive : Bytes) (table : List Mark) (i : ℕ) (out work : List ℕ) (r : Back) (left cells : List ℕ) → Type 0
+abbrev pub BackSteps : (keys archive : Bytes) (table : List Mark) (i : ℕ) (out work : List ℕ) (r : Tried Back Cause) (left cells : List ℕ) → Type 0
 BackSteps keys archive table i out work = StepsOn (back_in keys archive table i (length out)) table out work
 
-abbrev pub NamedSteps : (keys archive : Bytes) (table : List Mark) (name : Bytes) (out work : List ℕ) (r : Back) (left cells : List ℕ) → Type 0
+abbrev pub NamedSteps : (keys archive : Bytes) (table : List Mark) (name : Bytes) (out work : List ℕ) (r : Tried Back Cause) (left cells : List ℕ) → Type 0
 NamedSteps keys archive table name out work = StepsOn (named_in keys archive table name (length out)) table out work
 
 abbrev pub BackEnds : (keys archive : Bytes) (table : List Mark) (i : ℕ) (out work : List ℕ) (number size : ℕ) (left cells : List ℕ) (marks : List Mark) → Type 0
@@ -180,40 +199,42 @@ NamedEnds keys archive table name out work = EndsMarked (step_back_to_mark keys 
 
 -- 1, and the rest
 module _ (X : Result Given) (table : List Mark) (out work : List ℕ) where
-  pub steps-1 : {r : Back} → length work < 16384 → r ≡ refusing 1 → StepsOn X table out work r out work
-  unfolding room work_after number_of
-  steps-1 l q = subst (λ r. StepsOn X table out work r out work) (sym q) (record { steps = steps-refused table r1 out (rw (lt-ltb (length work) 16384 l)) refl; work-is = refl })
+  pub steps-1 : {v : Cause} → refused (row_of v) ≡ room (length work) → StepsOn X table out work (Err v) out work
+  unfolding work_after number_of
+  steps-1 {v} e =
+      let q : row_of v ≡ r1 = (room-1 (length work) e).0 in
+      record { steps = steps-refused table out (ap (λ R. R >> X) (sym e)); work-is = rw q refl }
 
-  pub steps_all : {r : Back} {left cells : List ℕ} → 16384 ≤ length work → Steps X table r out left → Later r.number → (k : ℕ) → k ≡ length work → cells ≡ replicate k 0
+  pub steps_all : {r : Tried Back Cause} {left cells : List ℕ} → ok tt ≡ room (length work) → Steps X table r out left → Later (number_in r) → (k : ℕ) → k ≡ length work → cells ≡ replicate k 0
       → StepsOn X table out work r left cells
-  unfolding room work_after
-  steps_all {r} l s y k q c =
-      record { steps = steps-same (rw (le-ltb (length work) 16384 l)) s; work-is = c ∙ ap (λ j. replicate j 0) q ∙ sym (rw (y, work_after) refl) }
+  unfolding work_after
+  steps_all {r} e s y k q c =
+      record { steps = steps-same (ap (λ R. R >> X) (sym e)) s; work-is = c ∙ ap (λ j. replicate j 0) q ∙ sym (rw (y, work_after) refl) }
 
 -- the whole, from the steps on the table by value and what is dropped from the one lent
-module _ (table lent : List Mark) (same-marks : (n : ℕ) → marks_in n lent ≡ marks_in n table) (out work : List ℕ) (r : Back) where
-  whole : (X : Result Given) {left cells : List ℕ} {marks : List Mark} → Steps X lent r out left → cells ≡ cells_after r.number work
-      → marks ≡ table_after r.number (dropping r.versions table r.to) table → EndsMarked (marked table X) out work r.number r.length left cells marks
-  unfolding marked answer work_after table_after marks_after
-  whole (refused w) s c e =
-      record {
-        ends = record { number_is = s.number_is; size_is = s.size_is; out-is = s.out-is; work-is = c ∙ ap (λ j. cells_after j work) s.number_is };
-        table_is = rw (refused-not r.number w s.number_is, table_after) at e;
-      }
-  whole (ok g) s c e =
-      let d : dropping r.versions table r.to ≡ ok g.marks = dropping-by r.versions table lent r.to (sym (same-marks r.versions)) ∙ s.drops g refl in
-      record {
-        ends = record { number_is = s.number_is; size_is = s.size_is; out-is = s.out-is; work-is = c ∙ ap (λ j. cells_after j work) s.number_is };
-        table_is = e ∙ left_by r.number s.number_is (dropping r.versions table r.to) d;
-      }
-    where
-      left_by : (n : ℕ) → n ≡ 0 → (D : Result (List Named)) → D ≡ ok g.marks → table_after n D table ≡ entries g.marks
-      left_by n z D d = rw (z, d) refl
+module _ (table lent : List Mark) (same-marks : (n : ℕ) → marks_in n lent ≡ marks_in n table) (out work : List ℕ) where
+  whole-refused : (X : Result Given) {v : Cause} {left cells : List ℕ} → Steps X lent (Err v) out left → cells ≡ cells_after (number_of (row_of v)) work
+      → EndsMarked (marked table X) out work (number_of (row_of v)) 0 left cells table
+  unfolding marked answer work_after
+  whole-refused (refused w) s c =
+      record { ends = record { number_is = s.number_is; size_is = s.size_is; out-is = s.out-is; work-is = c ∙ ap (λ j. cells_after j work) s.number_is }; table_is = refl }
+  whole-refused (ok g) {v} s c = absurd (omega (arith, number_of-pos (row_of v), s.number_is))
 
-  -- where the steps are those of the one lent
-  pub whole_by : (X Y : Result Given) {left cells : List ℕ} {marks : List Mark} → X ≡ Y → StepsOn X lent out work r left cells
-      → marks ≡ table_after r.number (dropping r.versions table r.to) table → EndsMarked (marked table (room (length work) >> Y)) out work r.number r.length left cells marks
-  whole_by X Y x s e = whole (room (length work) >> Y) (steps-same (ap (λ Z. room (length work) >> Z) (sym x)) s.steps) s.work-is e
+  whole-done : (X : Result Given) {b : Back} {left cells : List ℕ} {marks : List Mark} → Steps X lent (Ok b) out left → cells ≡ cells_after 0 work
+      → marks ≡ marks_after (dropping b.versions table b.to) table → EndsMarked (marked table X) out work 0 b.length left cells marks
+  unfolding marked answer work_after marks_after
+  whole-done (refused w) s c e = absurd (omega (arith, number_of-pos w, s.number_is))
+  whole-done (ok g) {b} s c e =
+      let d : dropping b.versions table b.to ≡ ok g.marks = dropping-by b.versions table lent b.to (sym (same-marks b.versions)) ∙ s.drops g b refl refl in
+      record { ends = record { number_is = refl; size_is = s.size_is; out-is = s.out-is; work-is = c }; table_is = e ∙ ap (λ D. marks_after D table) d }
+
+  -- what is dropped of a table that was not refused is not refused
+  whole-dropped : {A : Type 0} (X : Result Given) {b : Back} {left : List ℕ} {w : Refusal} → Steps X lent (Ok b) out left → refused w ≡ done (dropping b.versions table b.to) → A
+  unfolding marked answer
+  whole-dropped (refused v) s e = absurd (omega (arith, number_of-pos v, s.number_is))
+  whole-dropped (ok g) {b} s e =
+      let d : dropping b.versions table b.to ≡ ok g.marks = dropping-by b.versions table lent b.to (sym (same-marks b.versions)) ∙ s.drops g b refl refl in
+      refused-ok (e ∙ ap done d)
 
 -- the steps depend on the marks of the table alone
 pub bind-by : {A B : Type 0} (R : Result A) {f g : A → Result B} → ((a : A) → f a ≡ g a) → (R >>= f) ≡ (R >>= g)
@@ -227,21 +248,45 @@ module _ (keys archive : Bytes) (table lent : List Mark) (same-marks : (n : ℕ)
   pub named-same : (name : Bytes) → named_in keys archive lent name out ≡ named_in keys archive table name out
   named-same name = bind-by (archive_in keys archive) (λ f. ap (λ R. R >>= (λ ks. legal_name name >> (find name ks >>= (λ k. earlier_on f ks k.version out)))) (same-marks (last_version f)))
 
-pub back-ends : (keys archive : Bytes) (table : List Mark) (i : ℕ) (out work : List ℕ) (r : Back) (left cells : List ℕ) → BackSteps keys archive (lent_of (table_of table)) i out work r left cells
-    → (marks : List Mark) → marks ≡ table_after r.number (dropping r.versions table r.to) table → BackEnds keys archive table i out work r.number r.length left cells marks
-back-ends keys archive table i out work r left cells s marks e =
-    let lent = lent_of (table_of table) in
-    let same-marks : (n : ℕ) → marks_in n lent ≡ marks_in n table = λ n. lent_is n table in
-    subst (λ m. EndsMarked m out work r.number r.length left cells marks) (sym (back-steps keys archive table i (length out) (length work)))
-    (whole_by table lent same-marks out work r (back_in keys archive lent i (length out)) (back_in keys archive table i (length out)) (back-same keys archive table lent same-marks (length out) i) s e)
+-- a step back on a table by value t, which is read the same as the lent one, and then what is dropped from that one
+module _ (keys archive : Bytes) (table t : List Mark) (same-marks : (n : ℕ) → marks_in n t ≡ marks_in n table) (out work : List ℕ) {left cells : List ℕ} where
+  -- by number
+  module _ (i : ℕ) where
+    back-on : {r : Tried Back Cause} → BackSteps keys archive t i out work r left cells → Steps (room (length work) >> back_in keys archive table i (length out)) t r out left
+    back-on s = steps-same (ap (λ Z. room (length work) >> Z) (sym (back-same keys archive table t same-marks (length out) i))) s.steps
 
-pub named-ends : (keys archive : Bytes) (table : List Mark) (name : Bytes) (out work : List ℕ) (r : Back) (left cells : List ℕ) → NamedSteps keys archive (lent_of (table_of table)) name out work r left cells
-    → (marks : List Mark) → marks ≡ table_after r.number (dropping r.versions table r.to) table → NamedEnds keys archive table name out work r.number r.length left cells marks
-named-ends keys archive table name out work r left cells s marks e =
-    let lent = lent_of (table_of table) in
-    let same-marks : (n : ℕ) → marks_in n lent ≡ marks_in n table = λ n. lent_is n table in
-    subst (λ m. EndsMarked m out work r.number r.length left cells marks) (sym (named-steps keys archive table name (length out) (length work)))
-    (whole_by table lent same-marks out work r (named_in keys archive lent name (length out)) (named_in keys archive table name (length out)) (named-same keys archive table lent same-marks (length out) name) s e)
+    pub back-refused : {v : Cause} → BackSteps keys archive t i out work (Err v) left cells → BackEnds keys archive table i out work (number_of (row_of v)) 0 left cells table
+    back-refused {v} s =
+        subst (λ m. EndsMarked m out work (number_of (row_of v)) 0 left cells table) (sym (back-steps keys archive table i (length out) (length work)))
+        (whole-refused table t same-marks out work (room (length work) >> back_in keys archive table i (length out)) (back-on s) s.work-is)
+
+    pub back-done : {b : Back} {marks : List Mark} → BackSteps keys archive t i out work (Ok b) left cells → marks ≡ marks_after (dropping b.versions table b.to) table
+        → BackEnds keys archive table i out work 0 b.length left cells marks
+    back-done {b} {marks} s e =
+        subst (λ m. EndsMarked m out work 0 b.length left cells marks) (sym (back-steps keys archive table i (length out) (length work)))
+        (whole-done table t same-marks out work (room (length work) >> back_in keys archive table i (length out)) (back-on s) s.work-is e)
+
+    pub back-dropped : {A : Type 0} {b : Back} {w : Refusal} → BackSteps keys archive t i out work (Ok b) left cells → refused w ≡ done (dropping b.versions table b.to) → A
+    back-dropped s e = whole-dropped table t same-marks out work (room (length work) >> back_in keys archive table i (length out)) (back-on s) e
+
+  -- by name
+  module _ (name : Bytes) where
+    named-on : {r : Tried Back Cause} → NamedSteps keys archive t name out work r left cells → Steps (room (length work) >> named_in keys archive table name (length out)) t r out left
+    named-on s = steps-same (ap (λ Z. room (length work) >> Z) (sym (named-same keys archive table t same-marks (length out) name))) s.steps
+
+    pub named-refusal : {v : Cause} → NamedSteps keys archive t name out work (Err v) left cells → NamedEnds keys archive table name out work (number_of (row_of v)) 0 left cells table
+    named-refusal {v} s =
+        subst (λ m. EndsMarked m out work (number_of (row_of v)) 0 left cells table) (sym (named-steps keys archive table name (length out) (length work)))
+        (whole-refused table t same-marks out work (room (length work) >> named_in keys archive table name (length out)) (named-on s) s.work-is)
+
+    pub named-done : {b : Back} {marks : List Mark} → NamedSteps keys archive t name out work (Ok b) left cells → marks ≡ marks_after (dropping b.versions table b.to) table
+        → NamedEnds keys archive table name out work 0 b.length left cells marks
+    named-done {b} {marks} s e =
+        subst (λ m. EndsMarked m out work 0 b.length left cells marks) (sym (named-steps keys archive table name (length out) (length work)))
+        (whole-done table t same-marks out work (room (length work) >> named_in keys archive table name (length out)) (named-on s) s.work-is e)
+
+    pub named-dropped : {A : Type 0} {b : Back} {w : Refusal} → NamedSteps keys archive t name out work (Ok b) left cells → refused w ≡ done (dropping b.versions table b.to) → A
+    named-dropped s e = whole-dropped table t same-marks out work (room (length work) >> named_in keys archive table name (length out)) (named-on s) e
 
 -- ---- the calls on a table by value, with work cells of their own: number, length, output, and the table where the call is not refused
 pub record MarkedAs (m : Marked) (out : List ℕ) (number size : ℕ) (left : List ℕ) (table : List Mark) : Type 0 where

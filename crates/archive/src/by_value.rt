@@ -1,16 +1,16 @@
 // The calls over a table of marks, for callers that have it by value: each puts it into a local and lends it.
 ghost use Rattle.std.specs.Prelude.{◌≡◌};
+ghost use Rattle.keys.specs.Meant.{number_in, length_in};
 ghost use Rattle.archive.specs.MarkCalls.{SetEnds, FindEnds, BackEnds, NamedEnds};
 
 use crate::{back, mark};
+use keys::refusal::Refusal;
 use marks::Table;
-use marks::change::Found;
 
-// The number of a refusal or 0, the length of the result, and the table after the call. Its size is 32, whatever that of the one given is.
+// A call's answer, and the table after it. Its size is 32, whatever that of the one given is.
 #[derive(Clone, Copy)]
 pub struct Marked {
-    pub number: u32,
-    pub length: usize,
+    pub answer: Result<usize, Refusal>,
     pub table: Table,
 }
 
@@ -23,17 +23,13 @@ pub fn set_mark<'a, 'b, 'c, 'd>(
     i: usize,
     work: &'d mut [u32],
 ) -> Marked
-    ensures { SetEnds keys.now archive.now t.held name.now i work.old result.number result.length work.new result.table.held
+    ensures { SetEnds keys.now archive.now t.held name.now i work.old (number_in result.answer) (length_in result.answer) work.new result.table.held
         × (result.table.size ≡ 32) }
 {
     let mut held = t.held;
-    let a = mark::set_mark(keys, archive, &mut held, name, i, work);
+    let answer = mark::set_mark(keys, archive, &mut held, name, i, work);
     let table = Table { held, size: 32 };
-    Marked {
-        number: a.number,
-        length: a.length,
-        table,
-    }
+    Marked { answer, table }
 }
 
 // Finds the version of a mark.
@@ -43,7 +39,7 @@ pub fn find_mark<'a, 'b, 'c, 'd>(
     t: Table,
     name: &'c [u8],
     work: &'d mut [u32],
-) -> Found
+) -> Result<usize, Refusal>
     ensures { FindEnds keys.now archive.now t.held name.now work.old result work.new }
 {
     let held = t.held;
@@ -59,17 +55,13 @@ pub fn step_back<'a, 'b, 'c, 'd>(
     out: &'c mut [u8],
     work: &'d mut [u32],
 ) -> Marked
-    ensures { BackEnds keys.now archive.now t.held i out.old work.old result.number result.length out.new work.new result.table.held
+    ensures { BackEnds keys.now archive.now t.held i out.old work.old (number_in result.answer) (length_in result.answer) out.new work.new result.table.held
         × (result.table.size ≡ 32) }
 {
     let mut held = t.held;
-    let a = back::step_back(keys, archive, &mut held, i, out, work);
+    let answer = back::step_back(keys, archive, &mut held, i, out, work);
     let table = Table { held, size: 32 };
-    Marked {
-        number: a.number,
-        length: a.length,
-        table,
-    }
+    Marked { answer, table }
 }
 
 // Steps back to the version of a mark, and drops the marks of later ones.
@@ -81,15 +73,11 @@ pub fn step_back_to_mark<'a, 'b, 'n, 'c, 'd>(
     out: &'c mut [u8],
     work: &'d mut [u32],
 ) -> Marked
-    ensures { NamedEnds keys.now archive.now t.held name.now out.old work.old result.number result.length out.new work.new result.table.held
+    ensures { NamedEnds keys.now archive.now t.held name.now out.old work.old (number_in result.answer) (length_in result.answer) out.new work.new result.table.held
         × (result.table.size ≡ 32) }
 {
     let mut held = t.held;
-    let a = back::step_back_to_mark(keys, archive, &mut held, name, out, work);
+    let answer = back::step_back_to_mark(keys, archive, &mut held, name, out, work);
     let table = Table { held, size: 32 };
-    Marked {
-        number: a.number,
-        length: a.length,
-        table,
-    }
+    Marked { answer, table }
 }

@@ -1,41 +1,21 @@
 // The first call: is a text a key list?
 ghost use Rattle.std.specs.Prelude.{◌≡◌, length};
+ghost use Rattle.keys.specs.Meant.{number_in, length_in};
 ghost use Rattle.versions.specs.Calls.{check_keys, work_after};
 
-use crate::Answer;
-use keys::load::{Loaded, load};
+use crate::steps::{at_most, room};
+use keys::load::load;
+use keys::refusal::Refusal;
 use xml::tape::clear;
 
-pub fn check_keys(keys: &[u8], work: &mut [u32]) -> Answer
-    ensures { (result.number ≡ (check_keys keys.now (length work.old)).number) × (result.length ≡ 0)
+pub fn check_keys(keys: &[u8], work: &mut [u32]) -> Result<usize, Refusal>
+    ensures { (number_in result ≡ (check_keys keys.now (length work.old)).number) × (length_in result ≡ 0)
         × (work.new ≡ work_after (check_keys keys.now (length work.old)) work.old) }
 {
-    if work.len() < 16384 {
-        return Answer {
-            number: 1,
-            length: 0,
-        };
-    }
+    room(work)?;
     clear(work);
-    if 4096 < keys.len() {
-        return Answer {
-            number: 2,
-            length: 0,
-        };
-    }
+    at_most(keys, 4096)?;
     let mut table = [0u32; 256];
-    match load(keys, &mut table) {
-        Loaded::Table(n) => Answer {
-            number: 0,
-            length: 0,
-        },
-        Loaded::Notation => Answer {
-            number: 3,
-            length: 0,
-        },
-        Loaded::Rules => Answer {
-            number: 4,
-            length: 0,
-        },
-    }
+    load(keys, &mut table)?;
+    Ok(0)
 }

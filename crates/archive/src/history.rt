@@ -4,103 +4,62 @@ ghost use Rattle.xml.specs.Forest.{Forest};
 ghost use Rattle.xml.specs.Tape.{Tape};
 ghost use Rattle.keys.specs.KeyList.{KeyList};
 ghost use Rattle.keys.specs.Table.{Table as TableOf};
-ghost use Rattle.keys.specs.Loading.{Tabled};
+ghost use Rattle.keys.specs.Meant.{number_in, length_in};
 ghost use Rattle.versions.specs.Calls.{give, history as history_answer};
 ghost use Rattle.legality.specs.Opened.{Roomy};
 ghost use Rattle.archive.specs.Giving.{Gives, Ends};
 ghost use Rattle.walks.specs.HistoryParts.{HistoryAsked, OfHistory};
-ghost use Rattle.archive.specs.HistoryCall.{SomeArchive, history_for, history_under, history_from};
+ghost use Rattle.archive.specs.HistoryCall.{SomeArchive, history_for, history_from};
 
-use crate::Answer;
+use crate::steps::{at_most, room};
 use keys::address::{Parsed, parse_address};
-use keys::load::{Loaded, load};
-use legality::open::{Opened, open};
+use keys::load::load;
+use keys::places::KeyTable;
+use keys::refusal::Refusal;
+use legality::open::open;
 use walks::history::history;
-use xml::tape::clear;
+use xml::tape::{Document, clear};
 
 // Gives the history of an accepted address in the archive on the tape, if it fits.
 fn give_times(
-    text: &[u8],
-    table: &[u32],
-    paths: usize,
+    keys: &KeyTable,
     s: &[u8],
     steps: Parsed,
     values: [[usize; 4]; 8],
-    src: &[u8],
-    tape: &[u32],
+    doc: &Document,
     hi: usize,
     out: &mut [u8],
-) -> Answer
-    requires { HistoryAsked text.now table.now paths s.now steps values src.now tape.now hi }
-    ensures { OfHistory text.now table.now paths s.now src.now tape.now hi
-        (λ w. Gives (give (length out.old) w) result.number result.length out.old out.new) }
+) -> Result<usize, Refusal>
+    requires { HistoryAsked keys.now.text.now keys.now.table.now keys.now.paths s.now steps values doc.now.src.now doc.now.tape.now hi }
+    ensures { OfHistory keys.now.text.now keys.now.table.now keys.now.paths s.now doc.now.src.now doc.now.tape.now hi
+        (λ w. Gives (give (length out.old) w) (number_in result) (length_in result) out.old out.new) }
 {
     let mut none = [0u8; 0];
-    let count = history(
-        text, table, paths, s, steps, values, src, tape, hi, &mut none, 0,
-    );
+    let count = history(keys, s, steps, values, doc, hi, &mut none, 0);
     if out.len() < count {
-        return Answer {
-            number: 14,
-            length: 0,
-        };
+        return Err(Refusal::OutputTooShort);
     }
-    history(text, table, paths, s, steps, values, src, tape, hi, out, 0);
-    Answer {
-        number: 0,
-        length: count,
-    }
+    history(keys, s, steps, values, doc, hi, out, 0);
+    Ok(count)
 }
 
 // Gives the history of an address in the archive on the tape.
 fn history_on(
-    text: &[u8],
-    table: &[u32],
-    paths: usize,
-    src: &[u8],
-    tape: &[u32],
+    keys: &KeyTable,
+    doc: &Document,
     hi: usize,
     address: &[u8],
     out: &mut [u8],
-) -> Answer
-    requires { SomeArchive text.now table.now paths src.now tape.now hi × (length address.now ≤ 2560) }
-    ensures { (K : KeyList) (f : Forest) → TableOf text.now table.now paths K → Tape src.now tape.now 0 hi f
-        → Gives (history_for K address.now (length out.old) f) result.number result.length out.old out.new }
+) -> Result<usize, Refusal>
+    requires { SomeArchive keys.now.text.now keys.now.table.now keys.now.paths doc.now.src.now doc.now.tape.now hi × (length address.now ≤ 2560) }
+    ensures { (K : KeyList) (f : Forest) → TableOf keys.now.text.now keys.now.table.now keys.now.paths K → Tape doc.now.src.now doc.now.tape.now 0 hi f
+        → Gives (history_for K address.now (length out.old) f) (number_in result) (length_in result) out.old out.new }
 {
     let mut values = [[0usize; 4]; 8];
-    let steps = parse_address(text, table, paths, address, &mut values);
-    if steps.count == 0 {
-        return Answer {
-            number: 12,
-            length: 0,
-        };
-    }
-    give_times(
-        text, table, paths, address, steps, values, src, tape, hi, out,
-    )
-}
-
-// Gives the history of an address under the key list of a table.
-fn history_under(
-    text: &[u8],
-    table: &[u32],
-    paths: usize,
-    archive: &[u8],
-    address: &[u8],
-    out: &mut [u8],
-    work: &mut [u32],
-) -> Answer
-    requires { Tabled text.now table.now paths × (length archive.now ≤ 32768) × (length address.now ≤ 2560) × Roomy archive.now work.old }
-    ensures { (K : KeyList) → TableOf text.now table.now paths K
-        → Gives (history_under K archive.now address.now (length out.old)) result.number result.length out.old out.new }
-{
-    match open(text, table, paths, archive, work) {
-        Opened::Done(hi, n) => history_on(text, table, paths, archive, work, hi, address, out),
-        Opened::Illegal => Answer {
-            number: 10,
-            length: 0,
-        },
-    }
+    let Some(steps) = parse_address(keys, address, &mut values) else {
+        return Err(Refusal::AddressIllegal);
+    };
+    give_times(keys, address, steps, values, doc, hi, out)
 }
 
 // Gives the history of an address, with room to work in.
@@ -110,40 +69,26 @@ pub fn history_in(
     address: &[u8],
     out: &mut [u8],
     work: &mut [u32],
-) -> Answer
+) -> Result<usize, Refusal>
     requires { Roomy archive.now work.old }
-    ensures { Gives (history_from keys.now archive.now address.now (length out.old)) result.number result.length out.old out.new }
+    ensures { Gives (history_from keys.now archive.now address.now (length out.old)) (number_in result) (length_in result) out.old out.new }
 {
-    if 4096 < keys.len() {
-        return Answer {
-            number: 2,
-            length: 0,
-        };
-    }
-    if 32768 < archive.len() {
-        return Answer {
-            number: 2,
-            length: 0,
-        };
-    }
-    if 2560 < address.len() {
-        return Answer {
-            number: 2,
-            length: 0,
-        };
-    }
+    at_most(keys, 4096)?;
+    at_most(archive, 32768)?;
+    at_most(address, 2560)?;
     let mut table = [0u32; 256];
-    match load(keys, &mut table) {
-        Loaded::Table(n) => history_under(keys, &table, n, archive, address, out, work),
-        Loaded::Notation => Answer {
-            number: 3,
-            length: 0,
-        },
-        Loaded::Rules => Answer {
-            number: 4,
-            length: 0,
-        },
-    }
+    let paths = load(keys, &mut table)?;
+    let list = KeyTable {
+        text: keys,
+        table: &table,
+        paths,
+    };
+    let opened = open(&list, archive, work)?;
+    let doc = Document {
+        src: archive,
+        tape: work,
+    };
+    history_on(&list, &doc, opened.nodes, address, out)
 }
 
 // Gives the history of an address.
@@ -153,16 +98,11 @@ pub fn give_history(
     address: &[u8],
     out: &mut [u8],
     work: &mut [u32],
-) -> Answer
+) -> Result<usize, Refusal>
     ensures { Ends (history_answer keys.now archive.now address.now (length out.old) (length work.old))
-        out.old work.old result.number result.length out.new work.new }
+        out.old work.old (number_in result) (length_in result) out.new work.new }
 {
-    if work.len() < 16384 {
-        return Answer {
-            number: 1,
-            length: 0,
-        };
-    }
+    room(work)?;
     let answer = history_in(keys, archive, address, out, work);
     clear(work);
     answer

@@ -12,10 +12,4 @@ pub mod mark;
 pub mod opened;
 mod received;
 pub mod retrieve;
-
-// A call's answer: the number of a refusal or 0, and the length of the result.
-#[derive(Clone, Copy)]
-pub struct Answer {
-    pub number: u32,
-    pub length: usize,
-}
+mod steps;

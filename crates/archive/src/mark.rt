@@ -1,37 +1,36 @@
 // The calls that set and find a mark.
-ghost use Rattle.std.specs.Prelude.{length};
-ghost use Rattle.archive.specs.MarkCalls.{Counts, SetEnds, FindEnds};
+ghost use Rattle.keys.specs.Meant.{number_in, length_in};
+ghost use Rattle.legality.specs.Opened.{Roomy};
+ghost use Rattle.archive.specs.MarkCalls.{CountedIn, Counts, SetEnds, FindEnds};
 
-use crate::Answer;
 use crate::opened::open_in;
+use crate::steps::room;
+use keys::refusal::Refusal;
 use marks::Mark;
-use marks::change::Found;
 use marks::lent::{find, set};
 use xml::tape::clear;
 
-// The number of a refusal, or 0, and how many versions the archive has: none where it is refused.
-#[derive(Clone, Copy)]
-pub struct Counted {
-    pub number: u32,
-    pub versions: usize,
+// Counts the versions of an archive, with room to work in.
+pub fn count_in(keys: &[u8], archive: &[u8], work: &mut [u32]) -> Result<usize, Refusal>
+    requires { Roomy archive.now work.old }
+    ensures { CountedIn keys.now archive.now result }
+{
+    let opened = open_in(keys, archive, work)?;
+    Ok(opened.versions)
 }
 
 // Counts the versions of an archive.
-pub fn count<'a, 'b, 'd>(keys: &'a [u8], archive: &'b [u8], work: &'d mut [u32]) -> Counted
-    ensures { Counts keys.now archive.now work.old result.number result.versions work.new }
+pub fn count<'a, 'b, 'd>(
+    keys: &'a [u8],
+    archive: &'b [u8],
+    work: &'d mut [u32],
+) -> Result<usize, Refusal>
+    ensures { Counts keys.now archive.now work.old result work.new }
 {
-    if work.len() < 16384 {
-        return Counted {
-            number: 1,
-            versions: 0,
-        };
-    }
-    let o = open_in(keys, archive, work);
+    room(work)?;
+    let counted = count_in(keys, archive, work);
     clear(work);
-    Counted {
-        number: o.number,
-        versions: o.versions,
-    }
+    counted
 }
 
 // Sets a mark on version i of an archive.
@@ -42,12 +41,12 @@ pub fn set_mark<'a, 'b, 'm, 'n, 'd>(
     name: &'n [u8],
     i: usize,
     work: &'d mut [u32],
-) -> Answer
-    ensures { SetEnds keys.now archive.now marks.old name.now i work.old result.number result.length work.new marks.new }
+) -> Result<usize, Refusal>
+    ensures { SetEnds keys.now archive.now marks.old name.now i work.old (number_in result) (length_in result) work.new marks.new }
 {
-    let c = count(keys, archive, work);
-    let number = set(marks, name, i, c.number, c.versions);
-    Answer { number, length: 0 }
+    let counted = count(keys, archive, work);
+    set(marks, name, i, counted)?;
+    Ok(0)
 }
 
 // Finds the version of a mark.
@@ -57,9 +56,9 @@ pub fn find_mark<'a, 'b, 'm, 'n, 'd>(
     marks: &'m [Mark],
     name: &'n [u8],
     work: &'d mut [u32],
-) -> Found
+) -> Result<usize, Refusal>
     ensures { FindEnds keys.now archive.now marks.now name.now work.old result work.new }
 {
-    let c = count(keys, archive, work);
-    find(marks, name, c.number, c.versions)
+    let counted = count(keys, archive, work);
+    find(marks, name, counted)
 }

@@ -1,23 +1,15 @@
 // What the programs over the archive share: files read and replaced by name, and refusals said in the words of documents 01 and 02.
 #![tactic(auto)]
 
-ghost use Rattle.std.specs.Prelude.{◌<◌, ◌≤◌, ◌≡◌, length, IfOk};
+ghost use Rattle.std.specs.Prelude.{◌≤◌, ◌≡◌, length, IfOk, IfSome};
 
-use std::fmt::Write as WriteText;
 use std::fs::{File, OpenOptions, Permissions};
-use std::io::{ErrorKind, Read as ReadBytes, Write as WriteBytes};
+use std::io::{Cursor, ErrorKind, Read, Write};
 use std::os::unix::fs::{OpenOptionsExt, PermissionsExt};
 use std::random::RandomSource;
-use std::{fmt, fs, io};
+use std::{fs, io};
 
-// What reading a file gave: whether it was read, and how many bytes it has, as far as the buffer goes.
-#[derive(Clone, Copy)]
-pub struct Read {
-    pub done: bool,
-    pub length: usize,
-}
-
-// Writes to standard error.
+// Writes bytes that need not be text, as those of a file's name, to standard error.
 pub fn say(rt: &HostRuntime, words: &[u8]) {
     let _ = Print::write_all(&rt.stderr(), words);
 }
@@ -33,42 +25,28 @@ pub fn within(n: usize, out: &[u8]) -> usize
     n
 }
 
-// The text of an error, as far as it fits.
-#[derive(Clone, Copy)]
-struct ErrorText {
-    text: [u8; 256],
-    length: usize,
-}
-
-impl fmt::Write for ErrorText {
-    fn write_str(&mut self, words: &str) -> fmt::Result {
-        self.length = put(&mut self.text, self.length, words.as_bytes());
-        Ok(())
-    }
+// The bytes that a cursor over fixed memory (nothing is allocated) has written.
+pub fn written<const N: usize>(text: &Cursor<[u8; N]>) -> &[u8]
+    ensures { length result.now ≤ N }
+{
+    text.get_ref()
+        .get(..text.position() as usize)
+        .unwrap_or(b"")
 }
 
 // The reason in an error's text: what stands before the system's number of it.
 fn reason_in(text: &str) -> &str {
-    match text.split_once(" (os error ") {
-        Some((reason, _)) => reason,
-        None => text,
-    }
+    text.split_once(" (os error ")
+        .map_or(text, |(reason, _)| reason)
 }
 
-// Says what failed, and the system's reason.
+// Says what failed, which may be a file's name, and the system's reason.
 pub fn say_failure(rt: &HostRuntime, what: &[u8], error: &io::Error) {
-    let mut told = ErrorText {
-        text: [0u8; 256],
-        length: 0,
-    };
+    let mut told = Cursor::new([0u8; 256]);
     let _ = write!(told, "{error}");
+    let reason = reason_in(std::str::from_utf8(written(&told)).unwrap_or(""));
     say(rt, what);
-    say(rt, b": ");
-    let n = within(told.length, &told.text);
-    if let Ok(text) = std::str::from_utf8(&told.text[..n]) {
-        say(rt, reason_in(text).as_bytes());
-    }
-    say(rt, b"\n");
+    let _ = eprintln!(rt; ": {reason}");
 }
 
 // Says why a file of a name could not be read or replaced, after the program's name.
@@ -82,10 +60,7 @@ const NO_TEXT: i32 = 84;
 
 // A file's name as the system's calls take it here: a name that is not UTF-8 is none.
 fn path_of(name: &[u8]) -> io::Result<&str> {
-    match std::str::from_utf8(name) {
-        Ok(path) => Ok(path),
-        Err(_) => Err(io::Error::from_raw_os_error(NO_TEXT)),
-    }
+    std::str::from_utf8(name).map_err(|_| io::Error::from_raw_os_error(NO_TEXT))
 }
 
 // Opens the file of a name for reading.
@@ -93,7 +68,7 @@ fn open_file(rt: &HostRuntime, name: &[u8]) -> io::Result<File> {
     File::open(rt, path_of(name)?)
 }
 
-// Reads until buf is full or the input ends, and answers how many bytes were read.
+// Reads until buf is full or the input ends, and answers how many bytes were read. A `while`, as the system says how many each turn reads.
 fn read_on(file: &mut File, buf: &mut [u8]) -> io::Result<usize>
     ensures { IfOk result (λ n. n ≤ length buf.new) }
 {
@@ -108,107 +83,68 @@ fn read_on(file: &mut File, buf: &mut [u8]) -> io::Result<usize>
     Ok(n)
 }
 
-// Opens the file of a name, and reads it.
-fn read_named(rt: &HostRuntime, name: &[u8], buf: &mut [u8]) -> io::Result<usize>
-    ensures { IfOk result (λ n. n ≤ length buf.new) }
+// Opens the file of a name, and reads it, as far as buf goes.
+fn read_named<'a>(rt: &HostRuntime, name: &[u8], buf: &'a mut [u8]) -> io::Result<&'a [u8]>
+    ensures { IfOk result (λ bytes. length bytes.now ≤ length buf.old) }
 {
     let mut file = open_file(rt, name)?;
-    read_on(&mut file, buf)
+    let n = read_on(&mut file, buf)?;
+    Ok(&buf[..n])
 }
 
-// Reads the file of a name, as far as buf goes; where that fails, says why on standard error, after the program's name. Then nothing counts
-// as read.
-pub fn read_file(rt: &HostRuntime, program: &[u8], name: &[u8], buf: &mut [u8]) -> Read
-    ensures { result.length ≤ length buf.new }
+// Reads the file of a name, as far as buf goes; where that fails, says why on standard error, after the program's name.
+pub fn read_file<'a>(
+    rt: &HostRuntime,
+    program: &[u8],
+    name: &[u8],
+    buf: &'a mut [u8],
+) -> Option<&'a [u8]>
+    ensures { IfSome result (λ bytes. length bytes.now ≤ length buf.old) }
 {
     match read_named(rt, name, buf) {
-        Ok(n) => Read {
-            done: true,
-            length: n,
-        },
+        Ok(bytes) => Some(bytes),
         Err(error) => {
             say_failed(rt, program, name, &error);
-            Read {
-                done: false,
-                length: 0,
-            }
+            None
         }
     }
 }
 
 // Whether there is no file of a name. The empty name is not that of a missing file: it is a wrong word.
 pub fn is_missing(rt: &HostRuntime, name: &[u8]) -> bool {
-    if name.len() == 0 {
-        return false;
-    }
-    match open_file(rt, name) {
-        Ok(_) => false,
-        Err(error) => error.kind() == ErrorKind::NotFound,
-    }
+    !name.is_empty()
+        && matches!(open_file(rt, name), Err(error) if error.kind() == ErrorKind::NotFound)
 }
 
-// Writes bytes to an open file, which all may read, and waits until they have reached its device.
-fn write_through(file: &mut File, bytes: &[u8]) -> io::Result<()> {
-    WriteBytes::write_all(file, bytes)?;
+// Writes bytes to an open file, which all may read, waits until they have reached its device, and closes it.
+fn write_whole(mut file: File, bytes: &[u8]) -> io::Result<()> {
+    file.write_all(bytes)?;
     file.set_permissions(Permissions::from_mode(0o644))?;
     file.sync_all()
 }
 
-// The same, and closes the file.
-fn write_whole(mut file: File, bytes: &[u8]) -> io::Result<()> {
-    write_through(&mut file, bytes)
-}
-
-// Puts a word at a place of the text, as far as it fits, and answers the next place.
-pub fn put(text: &mut [u8], at: usize, word: &[u8]) -> usize
-    ensures { result ≤ length text.new }
-{
-    let mut n = within(at, text);
-    let mut i = 0;
-    while i < word.len() {
-        if text.len() <= n {
-            return n;
-        }
-        text[n] = word[i];
-        n += 1;
-        i += 1;
-    }
-    n
-}
-
-// The n-th of the bytes that a new file's name may have: `A` to `Z`, `a` to `z`, `0` to `9`.
-fn letter_at(n: u8) -> u8
-    requires { n < 62 }
-    ensures low { 48 ≤ result }
-    ensures high { result ≤ 122 }
-{
-    if n < 26 {
-        return b'A' + n;
-    }
-    if n < 52 {
-        return b'a' + (n - 26);
-    }
-    b'0' + (n - 52)
-}
-
-// Six letters, drawn by the system.
+// Six letters, drawn by the system, of the bytes that a new file's name may have.
 fn draw_letters(rt: &HostRuntime) -> io::Result<[u8; 6]> {
+    let allowed = b"ABCDEFGHIJKLMNOPQRSTUVWXYZabcdefghijklmnopqrstuvwxyz0123456789";
     let mut letters = [0u8; 6];
     rt.fill_bytes(&mut letters)?;
     for letter in &mut letters {
-        *letter = letter_at(*letter % 62);
+        *letter = allowed[*letter as usize % 62];
     }
     Ok(letters)
 }
 
-// A name for a new file beside the one of a name: a dot and six letters after it, as far as that fits. Answers its length.
-fn put_new_name(rt: &HostRuntime, name: &[u8], path: &mut [u8]) -> io::Result<usize>
-    ensures { IfOk result (λ n. n ≤ length path.new) }
-{
+// A file's name, in fixed memory.
+type Path = Cursor<[u8; 4096]>;
+
+// A name for a new file beside the one of a name: a dot and six letters after it, as far as that fits.
+fn new_name(rt: &HostRuntime, name: &[u8]) -> io::Result<Path> {
     let letters = draw_letters(rt)?;
-    let n = put(path, 0, name);
-    let end = put(path, n, b".");
-    Ok(put(path, end, &letters))
+    let mut path = Cursor::new([0u8; 4096]);
+    let _ = path.write_all(name);
+    let _ = path.write_all(b".");
+    let _ = path.write_all(&letters);
+    Ok(path)
 }
 
 // Makes a file that is not there yet, which its owner alone may read and write.
@@ -224,21 +160,19 @@ const EXISTS: i32 = 17;
 // How many names are tried for a new file.
 const TRIES: usize = 238328;
 
-// A new file beside the one of a name, and the length of its own name.
+// A new file beside the one of a name, and its own name.
 #[derive(Drop)]
 struct Beside {
     file: File,
-    length: usize,
+    path: Path,
 }
 
 // Makes a new file beside the one of a name.
-fn create_beside(rt: &HostRuntime, name: &[u8], path: &mut [u8]) -> io::Result<Beside>
-    ensures { IfOk result (λ b. b.length ≤ length path.new) }
-{
+fn create_beside(rt: &HostRuntime, name: &[u8]) -> io::Result<Beside> {
     for _ in 0..TRIES {
-        let length = put_new_name(rt, name, path)?;
-        match create_new(rt, &path[..length]) {
-            Ok(file) => return Ok(Beside { file, length }),
+        let path = new_name(rt, name)?;
+        match create_new(rt, written(&path)) {
+            Ok(file) => return Ok(Beside { file, path }),
             Err(error) if error.kind() == ErrorKind::AlreadyExists => {}
             Err(error) => return Err(error),
         }
@@ -248,10 +182,7 @@ fn create_beside(rt: &HostRuntime, name: &[u8], path: &mut [u8]) -> io::Result<B
 
 // Writes a new file's bytes, and gives it the name of the old one. Where that fails, the new file goes.
 fn take_place(rt: &HostRuntime, file: File, new: &str, old: &str, bytes: &[u8]) -> io::Result<()> {
-    let placed = match write_whole(file, bytes) {
-        Ok(()) => fs::rename(rt, new, old),
-        Err(error) => Err(error),
-    };
+    let placed = write_whole(file, bytes).and_then(|()| fs::rename(rt, new, old));
     if placed.is_err() {
         let _ = fs::remove_file(rt, new);
     }
@@ -261,11 +192,8 @@ fn take_place(rt: &HostRuntime, file: File, new: &str, old: &str, bytes: &[u8]) 
 // Replaces the file of a name, or makes it.
 fn replace(rt: &HostRuntime, name: &[u8], bytes: &[u8]) -> io::Result<()> {
     let old = path_of(name)?;
-    let mut path = [0u8; 4096];
-    let beside = create_beside(rt, name, &mut path)?;
-    let n = within(beside.length, &path);
-    let new = path_of(&path[..n])?;
-    take_place(rt, beside.file, new, old, bytes)
+    let Beside { file, path } = create_beside(rt, name)?;
+    take_place(rt, file, path_of(written(&path))?, old, bytes)
 }
 
 // Replaces the file of a name, or makes it. The bytes go to a new file beside it, which takes the name when they are all there:
@@ -276,45 +204,36 @@ pub fn replace_file(rt: &HostRuntime, program: &[u8], name: &[u8], bytes: &[u8])
     }
 }
 
+// When a refusal is returned; none for a number that is no refusal's.
+fn reason(number: u32) -> Option<&'static str> {
+    Some(match number {
+        1 => "work under 16,384 cells",
+        2 =>
+            "key list over 4,096 bytes, version over 16,384, archive over 32,768, or address over 2,560",
+        3 => "key list not in the notation",
+        4 => "key list breaks a rule",
+        5 => "version not in the XML subset",
+        6 => "version deeper than 16, over 512 nodes, or its written form over 16,384 bytes",
+        7 =>
+            "a path not in the list above or at a frontier, refused text, or the name `T` anywhere",
+        8 => "a key child missing, repeated or illegal",
+        9 => "two siblings with one name and key",
+        10 => "archive not legal",
+        11 => "i not in 1 to n; or adding at n = 999; or n of a longest history not in 1 to 999",
+        12 => "address not of this form and list",
+        13 => "result over 1,024 nodes or 32,768 bytes",
+        14 => "output shorter than the result",
+        15 => "a name illegal, already held when setting, or not held when using",
+        16 => "setting when 32 are held",
+        17 => "a lent table not of 32 entries or that breaks these rules",
+        _ => return None,
+    })
+}
+
 // Says a refusal on standard error: its number and when it is returned.
 pub fn say_refusal(rt: &HostRuntime, number: u32) {
-    let _ = eprint!(rt; "refused {number}");
-    match number {
-        1 => say(rt, b": work under 16,384 cells\n"),
-        2 => say(
-            rt,
-            b": key list over 4,096 bytes, version over 16,384, archive over 32,768, or address over 2,560\n",
-        ),
-        3 => say(rt, b": key list not in the notation\n"),
-        4 => say(rt, b": key list breaks a rule\n"),
-        5 => say(rt, b": version not in the XML subset\n"),
-        6 => say(
-            rt,
-            b": version deeper than 16, over 512 nodes, or its written form over 16,384 bytes\n",
-        ),
-        7 => say(
-            rt,
-            b": a path not in the list above or at a frontier, refused text, or the name `T` anywhere\n",
-        ),
-        8 => say(rt, b": a key child missing, repeated or illegal\n"),
-        9 => say(rt, b": two siblings with one name and key\n"),
-        10 => say(rt, b": archive not legal\n"),
-        11 => say(
-            rt,
-            b": i not in 1 to n; or adding at n = 999; or n of a longest history not in 1 to 999\n",
-        ),
-        12 => say(rt, b": address not of this form and list\n"),
-        13 => say(rt, b": result over 1,024 nodes or 32,768 bytes\n"),
-        14 => say(rt, b": output shorter than the result\n"),
-        15 => say(
-            rt,
-            b": a name illegal, already held when setting, or not held when using\n",
-        ),
-        16 => say(rt, b": setting when 32 are held\n"),
-        17 => say(
-            rt,
-            b": a lent table not of 32 entries or that breaks these rules\n",
-        ),
-        _ => say(rt, b"\n"),
-    }
+    let _ = match reason(number) {
+        Some(reason) => eprintln!(rt; "refused {number}: {reason}"),
+        None => eprintln!(rt; "refused {number}"),
+    };
 }

@@ -5,20 +5,20 @@
 mod cells;
 
 ghost use Rattle.std.specs.Prelude.{◌≡◌, [], length as size_of};
+ghost use Rattle.keys.specs.Meant.{number_in, length_in};
 ghost use Rattle.marks.specs.Marks.{table_in};
 ghost use Rattle.versions.specs.Calls.{check_keys, found as found_of, add as add_of, retrieve as retrieve_of, history as history_of, set_mark as set_mark_of, find_mark as find_mark_of, step_back as step_back_of, step_back_to_mark as step_back_to_mark_of};
 ghost use Rattle.archive.specs.Giving.{Told};
-ghost use Rattle.archive.specs.Entries.{ToldTable, ToldFound, bytes_left};
+ghost use Rattle.archive.specs.Entries.{ToldTable, ToldFound};
 ghost use Rattle.archive.specs.LongestCall.{LongestTold};
+ghost use Rattle.firmware.specs.Stepped.{length_left, bytes_after};
 
-use archive::by_value::Marked;
 use archive::check_keys::check_keys;
 use archive::longest::longest_in;
 use cells::{
-    add_long, add_short, back_long, back_short, find_long, find_short, found_long, found_short,
-    history_long, history_short, named_long, named_short, retrieve_long, retrieve_short, set_long,
-    set_short,
+    Stepped, add_on, back_on, find_on, found_on, history_on, named_on, retrieve_on, set_on,
 };
+use keys::refusal::Refusal;
 use marks::bytes::{put_table, table_from};
 
 // The work cells of an entry.
@@ -27,15 +27,29 @@ const CELLS: usize = 16384;
 // The work cells of an entry whose texts have at most as many bytes: they ask for no more.
 const FEW: usize = 2048;
 
+// Answers a call: the number of its refusal, or 0; and its length, 0 where it is refused.
+fn told(answer: Result<usize, Refusal>, length: &mut usize) -> u32
+    ensures { (result ≡ number_in answer) × (length.new ≡ length_in answer) }
+{
+    match answer {
+        Ok(n) => {
+            *length = n;
+            0
+        }
+        Err(refusal) => {
+            *length = 0;
+            refusal.number()
+        }
+    }
+}
+
 // Checks a key list.
 #[unsafe(no_mangle)]
 pub extern "C" fn archive_check_keys(keys: &[u8], length: &mut usize) -> u32
     ensures { (result ≡ (check_keys keys.now 16384).number) × (length.new ≡ 0) }
 {
     let mut work = [0u32; CELLS];
-    let answer = check_keys(keys, &mut work);
-    *length = answer.length;
-    answer.number
+    told(check_keys(keys, &mut work), length)
 }
 
 // Founds an archive from version 1.
@@ -50,13 +64,9 @@ pub extern "C" fn archive_found(
         out.old result length.new out.new }
 {
     if version.len() <= FEW {
-        let answer = found_short(keys, version, out);
-        *length = answer.length;
-        return answer.number;
+        return told(found_on::<FEW>(keys, version, out), length);
     }
-    let answer = found_long(keys, version, out);
-    *length = answer.length;
-    answer.number
+    told(found_on::<CELLS>(keys, version, out), length)
 }
 
 // Adds a version to an archive.
@@ -71,16 +81,10 @@ pub extern "C" fn archive_add(
     ensures { Told (add_of keys.now version.now archive.now (size_of out.old) 16384)
         out.old result length.new out.new }
 {
-    if archive.len() <= FEW {
-        if version.len() <= FEW {
-            let answer = add_short(keys, archive, version, out);
-            *length = answer.length;
-            return answer.number;
-        }
+    if archive.len() <= FEW && version.len() <= FEW {
+        return told(add_on::<FEW>(keys, archive, version, out), length);
     }
-    let answer = add_long(keys, archive, version, out);
-    *length = answer.length;
-    answer.number
+    told(add_on::<CELLS>(keys, archive, version, out), length)
 }
 
 // Retrieves version i of an archive.
@@ -96,13 +100,9 @@ pub extern "C" fn archive_retrieve(
         out.old result length.new out.new }
 {
     if archive.len() <= FEW {
-        let answer = retrieve_short(keys, archive, i, out);
-        *length = answer.length;
-        return answer.number;
+        return told(retrieve_on::<FEW>(keys, archive, i, out), length);
     }
-    let answer = retrieve_long(keys, archive, i, out);
-    *length = answer.length;
-    answer.number
+    told(retrieve_on::<CELLS>(keys, archive, i, out), length)
 }
 
 // Gives the history of an address.
@@ -118,27 +118,23 @@ pub extern "C" fn archive_history(
         out.old result length.new out.new }
 {
     if archive.len() <= FEW {
-        let answer = history_short(keys, archive, address, out);
-        *length = answer.length;
-        return answer.number;
+        return told(history_on::<FEW>(keys, archive, address, out), length);
     }
-    let answer = history_long(keys, archive, address, out);
-    *length = answer.length;
-    answer.number
+    told(history_on::<CELLS>(keys, archive, address, out), length)
 }
 
-// Writes the table that a call leaves into the bytes lent, where the call is not refused; answers its number.
-fn put_back(m: Marked, marks: &mut [u8]) -> u32
-    requires { m.number ≡ 0 → size_of marks.old ≡ 608 }
-    ensures { (result ≡ m.number) × (marks.new ≡ bytes_left m.number m.table.held marks.old) }
+// Answers a call over a table, and writes the table into the bytes lent where the call is not refused.
+fn told_table(answer: Result<Stepped, Refusal>, marks: &mut [u8], length: &mut usize) -> u32
+    requires { number_in answer ≡ 0 → size_of marks.old ≡ 608 }
+    ensures { (result ≡ number_in answer) × (length.new ≡ length_left answer) × (marks.new ≡ bytes_after answer marks.old) }
 {
-    let number = m.number;
-    if number != 0 {
-        return number;
+    match answer {
+        Ok(s) => {
+            put_table(s.table, marks);
+            told(Ok(s.length), length)
+        }
+        Err(refusal) => told(Err(refusal), length),
     }
-    let table = m.table;
-    put_table(table, marks);
-    0
 }
 
 // Sets a mark on version i of an archive.
@@ -156,13 +152,9 @@ pub extern "C" fn archive_set_mark(
 {
     let t = table_from(marks);
     if archive.len() <= FEW {
-        let m = set_short(keys, archive, t, name, i);
-        *length = m.length;
-        return put_back(m, marks);
+        return told_table(set_on::<FEW>(keys, archive, t, name, i), marks, length);
     }
-    let m = set_long(keys, archive, t, name, i);
-    *length = m.length;
-    put_back(m, marks)
+    told_table(set_on::<CELLS>(keys, archive, t, name, i), marks, length)
 }
 
 // Finds the version of a mark.
@@ -179,16 +171,11 @@ pub extern "C" fn archive_find_mark(
         result version.new length.new }
 {
     let t = table_from(marks);
+    *length = 0;
     if archive.len() <= FEW {
-        let found = find_short(keys, archive, t, name);
-        *version = found.version;
-        *length = found.length;
-        return found.number;
+        return told(find_on::<FEW>(keys, archive, t, name), version);
     }
-    let found = find_long(keys, archive, t, name);
-    *version = found.version;
-    *length = found.length;
-    found.number
+    told(find_on::<CELLS>(keys, archive, t, name), version)
 }
 
 // Steps an archive back to version i.
@@ -206,13 +193,9 @@ pub extern "C" fn archive_back(
 {
     let t = table_from(marks);
     if archive.len() <= FEW {
-        let m = back_short(keys, archive, t, i, out);
-        *length = m.length;
-        return put_back(m, marks);
+        return told_table(back_on::<FEW>(keys, archive, t, i, out), marks, length);
     }
-    let m = back_long(keys, archive, t, i, out);
-    *length = m.length;
-    put_back(m, marks)
+    told_table(back_on::<CELLS>(keys, archive, t, i, out), marks, length)
 }
 
 // Steps an archive back to the version of a mark.
@@ -230,13 +213,13 @@ pub extern "C" fn archive_back_to_mark(
 {
     let t = table_from(marks);
     if archive.len() <= FEW {
-        let m = named_short(keys, archive, t, name, out);
-        *length = m.length;
-        return put_back(m, marks);
+        return told_table(named_on::<FEW>(keys, archive, t, name, out), marks, length);
     }
-    let m = named_long(keys, archive, t, name, out);
-    *length = m.length;
-    put_back(m, marks)
+    told_table(
+        named_on::<CELLS>(keys, archive, t, name, out),
+        marks,
+        length,
+    )
 }
 
 // Gives a history text over versions 1 to n than which no set of these numbers has a longer one.
@@ -244,7 +227,5 @@ pub extern "C" fn archive_back_to_mark(
 pub extern "C" fn archive_longest_history(n: usize, out: &mut [u8], length: &mut usize) -> u32
     ensures { LongestTold n out.old result length.new out.new }
 {
-    let answer = longest_in(n, out);
-    *length = answer.length;
-    answer.number
+    told(longest_in(n, out), length)
 }

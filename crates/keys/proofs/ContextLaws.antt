@@ -94,7 +94,7 @@ module _ (text : Bytes) (at a e : ℕ) (k : e ≤ length text) where
 
 -- ---- what the last line tells
 module _ (text : Bytes) (at : ℕ) (h : at < length text) where
-  pub known-none : (K : KeyList) → KnownIs text at K (record { end = at + 1; place = 128; depth = 0 })
+  pub known-none : (K : KeyList) → KnownIs text at K (record { end = at + 1; context = record { place = 128; depth = 0 } })
   unfolding write_path all
   known-none K =
       record {
@@ -131,7 +131,7 @@ module _ (text : Bytes) (at : ℕ) (h : at < length text) where
     shared-within : e₁ < length text
     shared-within = whole-within text (at + 1) last.start last.end (omega (arith, l.parts.to, l.parts.within)) (omega arith) s
 
-    pub known_shared : KnownIs text at K (record { end = e₁; place = last.place; depth = last.depth })
+    pub known_shared : KnownIs text at K (record { end = e₁; context = last.context })
     known_shared =
         record {
           path = k.context;
@@ -161,7 +161,7 @@ module _ (text : Bytes) (at : ℕ) (h : at < length text) where
           let z = drop-drop (length (slice (last.end + 3) last.name text)) (e₁ + 1) text ∙ ap (λ (n : ℕ). drop (e₁ + 1 + n) text) name-long in
           (x.0 ∙ ap₂ (λ (a b : Bytes). a ++ b) l.name-is z, ap stops (sym z) ∙ x.1)
 
-      pub known-below : KnownIs text at K (record { end = e₂; place = last.own; depth = last.depth + 1 })
+      pub known-below : KnownIs text at K (record { end = e₂; context = record { place = last.own; depth = last.context.depth + 1 } })
       unfolding path all
       known-below =
           record {
@@ -218,10 +218,10 @@ module _ {text : Bytes} {cells : List ℕ} {at n : ℕ} {known : Known} {c : ℕ
   pub known-rowed : Rowed 1 text c known.end
   known-rowed = record { names = after.rest; row = after.row }
 
-  pub known-counted : Counted 1 text c (at + 1) known.end known.depth
+  pub known-counted : Counted 1 text c (at + 1) known.end known.context.depth
   known-counted ns r = (after.rest, after.row, omega (arith, x.known_is.depth_is, ap length (after.joined ∙ row_one (context-row x.line) r), length-append q after.rest))
 
-  pub known-walked : Walked text at cells n (at + 1) c known.end known.place
+  pub known-walked : Walked text at cells n (at + 1) c known.end known.context.place
   known-walked K r t o =
       record {
         gone = q;

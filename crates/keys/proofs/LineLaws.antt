@@ -1,4 +1,5 @@
 -- A line read part by part: what is missing shows that no key is written there; where nothing is, one is.
+use Rattle.std.specs.Prelude.{None, Option, Some}
 use Prim.Native.Nat.{ℕ, ◌+◌, ◌≤◌}
 use native.Mathlib.Omega.{arith}
 use mathlib.Core.Path.{◌≡◌, refl, sym, ◌∙◌, ap}
@@ -17,10 +18,9 @@ use Rattle.keys.specs.Notation.{Noted, spell}
 use Rattle.keys.specs.Rows.{Row, Rowed}
 use Rattle.keys.proofs.RowMade.{row-names}
 use Rattle.keys.proofs.LineScanLaws.{past, past_one}
-use Rattle.keys.proofs.LineReadLaws.{nowhere, at-is, word-there, word_fits, there-word}
+use Rattle.keys.specs.ResultLaws.{none-not, some-is}
+use Rattle.keys.proofs.LineReadLaws.{word-there, word_fits, there-word}
 use Rattle.keys.specs.LineRead.{ContextIs, ContextRead, KeysRead, NameIs, NameRead, LineIs, NoLine}
-use Rattle.keys.specs.declared.notation.End.{End}
-use Rattle.keys.specs.declared.notation.End.TheVariants.{At, Nowhere}
 
 -- a key that is written at a place, with the context that the place asks for
 abbrev Written : Bytes → ℕ → Key → Bytes → Type 0
@@ -30,14 +30,14 @@ Written text at k s = Noted k × (is_root_context k.context ≡ eqb at 0) × (dr
 abbrev from_name : Key → Bytes → Bytes
 from_name k s = k.name ++ 44 ∷ 32 ∷ 123 ∷ (join_by (bytes ", ") k.key_names ++ 125 ∷ 41 ∷ 41 ∷ s)
 
-module _ (text : Bytes) (at : ℕ) {r : End} (read : ContextRead text at r) where
-  pub no-context : r ≡ Nowhere → NoLine text at
-  no-context e k s d root q = nowhere (sym e ∙ read.found k.context (32 ∷ 40 ∷ from_name k (10 ∷ s)) d.context-names root q)
+module _ (text : Bytes) (at : ℕ) {r : Option ℕ} (read : ContextRead text at r) where
+  pub no-context : r ≡ None → NoLine text at
+  no-context e k s d root q = none-not (sym e ∙ read.found k.context (32 ∷ 40 ∷ from_name k (10 ∷ s)) d.context-names root q)
 
-  module _ (c : ℕ) (e : r ≡ At c) where
+  module _ (c : ℕ) (e : r ≡ Some c) where
     after-context : (k : Key) (s : Bytes) → Written text at k s → drop c text ≡ 44 ∷ 32 ∷ 40 ∷ from_name k s
     after-context k s w =
-        let x = at-is (sym e ∙ read.found k.context (32 ∷ 40 ∷ from_name k s) w.0.context-names w.1 w.2) in
+        let x = some-is (sym e ∙ read.found k.context (32 ∷ 40 ∷ from_name k s) w.0.context-names w.1 w.2) in
         ap (λ (z : ℕ). drop z text) x ∙ past (at + 1) text (write_context k.context) (44 ∷ 32 ∷ 40 ∷ from_name k s) (past_one at 40 text (write_context k.context ++ 44 ∷ 32 ∷ 40 ∷ from_name k s) w.2)
 
     pub no-comma : (common (44 ∷ 32 ∷ 40 ∷ []) (drop c text) ≡ 3 → ⊥) → NoLine text at
@@ -109,26 +109,26 @@ module _ (text : Bytes) (at : ℕ) {r : End} (read : ContextRead text at r) wher
                 }
 
 -- ---- from the end of the name on
-module _ (text : Bytes) (at c n : ℕ) (name : NameRead text at c n) {r : End} (keys : KeysRead text (n + 1) r) where
+module _ (text : Bytes) (at c n : ℕ) (name : NameRead text at c n) {r : Option ℕ} (keys : KeysRead text (n + 1) r) where
   keys_from_lem : (k : Key) (s : Bytes) → Written text at k s → drop (n + 1 + 2) text ≡ join_by (bytes ", ") k.key_names ++ 125 ∷ 41 ∷ 41 ∷ s
   keys_from_lem k s w = let z : n + 1 + 2 ≡ n + 3 = omega arith in ap (λ (z : ℕ). drop z text) z ∙ name.found k s w.0 w.1 w.2
 
-  keys_found : (k : Key) (s : Bytes) → Written text at k s → r ≡ At (n + 1 + 2 + length (join_by (bytes ", ") k.key_names))
+  keys_found : (k : Key) (s : Bytes) → Written text at k s → r ≡ Some (n + 1 + 2 + length (join_by (bytes ", ") k.key_names))
   keys_found k s w = keys.found k.key_names (41 ∷ 41 ∷ s) w.0.key-named w.0.few-keys (keys_from_lem k s w)
 
-  pub no-keys-end : r ≡ Nowhere → NoLine text at
-  no-keys-end e k s d root q = nowhere (sym e ∙ keys_found k (10 ∷ s) (d, root, q))
+  pub no-keys-end : r ≡ None → NoLine text at
+  no-keys-end e k s d root q = none-not (sym e ∙ keys_found k (10 ∷ s) (d, root, q))
 
-  module _ (m : ℕ) (e : r ≡ At m) where
+  module _ (m : ℕ) (e : r ≡ Some m) where
     pub no-closing : (common (125 ∷ 41 ∷ 41 ∷ 10 ∷ []) (drop m text) ≡ 4 → ⊥) → NoLine text at
     no-closing f k s d root q =
         let w : Written text at k (10 ∷ s) = (d, root, q) in
-        let x = at-is (sym e ∙ keys_found k (10 ∷ s) w) in
+        let x = some-is (sym e ∙ keys_found k (10 ∷ s) w) in
         f (there-word (125 ∷ 41 ∷ 41 ∷ 10 ∷ []) text s m (ap (λ (z : ℕ). drop z text) x ∙ past (n + 1 + 2) text (join_by (bytes ", ") k.key_names) (125 ∷ 41 ∷ 41 ∷ 10 ∷ s) (keys_from_lem k (10 ∷ s) w)))
 
     row_of : (k : Key) (s : Bytes) → Written text at k s → Row 2 text m (n + 1) k.key_names
     row_of k s w =
-        row-names text m (n + 1) k.key_names (41 ∷ 41 ∷ s) w.0.key-named (let z = name.real.within in omega arith) (keys_from_lem k s w) (at-is (sym e ∙ keys_found k s w))
+        row-names text m (n + 1) k.key_names (41 ∷ 41 ∷ s) w.0.key-named (let z = name.real.within in omega arith) (keys_from_lem k s w) (some-is (sym e ∙ keys_found k s w))
 
     pub not-once : {b : Bool} → ((ns : List Bytes) → Row 2 text m (n + 1) ns → b ≡ distinct same ns) → b ≡ false → NoLine text at
     not-once f g k s d root q = clash d.keys-once (sym (f k.key_names (row_of k (10 ∷ s) (d, root, q))) ∙ g)

@@ -1,4 +1,5 @@
 -- The parts of a line, as the scanner meets them: its context and its key names.
+use Rattle.std.specs.Prelude.{None, Option, Some}
 use Prim.Native.Nat.{ℕ, ◌+◌, ◌≤◌}
 use native.Mathlib.Omega.{arith}
 use mathlib.Core.Path.{◌≡◌, refl, sym, ◌∙◌, ap, subst}
@@ -18,15 +19,8 @@ use Rattle.keys.specs.KeyList.{Path, write_path, write_context, is_root_context}
 use Rattle.keys.specs.LineScans.{path_run, names_end}
 use Rattle.keys.proofs.LineScanLaws.{past_one, past_fits, run-path, PathAt, path-at}
 use Rattle.keys.proofs.NamesEndLaws.{NamesAt, names-found, names-real}
+use Rattle.keys.specs.ResultLaws.{none-not, some-is}
 use Rattle.keys.specs.LineRead.{ContextIs, ContextRead, KeysAre, KeysRead}
-use Rattle.keys.specs.declared.notation.End.{End}
-use Rattle.keys.specs.declared.notation.End.TheVariants.{At, Nowhere}
-
-pub nowhere : {A : Type 0} {e : ℕ} → Nowhere ≡ At e → A
-nowhere q = let z : ◌≡◌ {A = ℕ} 0 1 = cc in absurd (omega arith)
-
-pub at-is : {a b : ℕ} → At a ≡ At b → a ≡ b
-at-is q = cc
 
 -- a word that stands at a place
 pub word-there : (w text : Bytes) (i : ℕ) → common w (drop i text) ≡ length w → drop i text ≡ w ++ drop (i + length w) text
@@ -61,12 +55,12 @@ rooted (n ∷ p) f = refl
 
 -- the first line's
 module _ (text : Bytes) (at : ℕ) (first : at ≡ 0) where
-  pub first-context : common (40 ∷ 47 ∷ []) (drop at text) ≡ 2 → at ≤ length text → ContextRead text at (At (at + 2))
+  pub first-context : common (40 ∷ 47 ∷ []) (drop at text) ≡ 2 → at ≤ length text → ContextRead text at (Some (at + 2))
   unfolding write_context bytes is_root_context all
   first-context e h =
       record {
-        found = λ p s n r q. let z : at + 2 ≡ at + 1 + 1 = omega arith in ap At z ∙ ap (λ (z : Path). At (at + 1 + length (write_context z))) (sym (root-only p (r ∙ eq-eqb at 0 first)));
-        real = λ e' q. subst (λ (z : ℕ). ContextIs text at z) (at-is q)
+        found = λ p s n r q. let z : at + 2 ≡ at + 1 + 1 = omega arith in ap Some z ∙ ap (λ (z : Path). Some (at + 1 + length (write_context z))) (sym (root-only p (r ∙ eq-eqb at 0 first)));
+        real = λ e' q. subst (λ (z : ℕ). ContextIs text at z) (some-is q)
             (record {
               path = [];
               named = refl;
@@ -77,18 +71,18 @@ module _ (text : Bytes) (at : ℕ) (first : at ≡ 0) where
             });
       }
 
-  pub no-first-context : (common (40 ∷ 47 ∷ []) (drop at text) ≡ 2 → ⊥) → ContextRead text at Nowhere
+  pub no-first-context : (common (40 ∷ 47 ∷ []) (drop at text) ≡ 2 → ⊥) → ContextRead text at None
   unfolding write_context bytes
   no-first-context f =
       record {
         found = λ p s n r q. absurd (f (there-word (40 ∷ 47 ∷ []) text (44 ∷ s) at (q ∙ ap (λ (z : Path). 40 ∷ (write_context z ++ 44 ∷ s)) (root-only p (r ∙ eq-eqb at 0 first)))));
-        real = λ e q. nowhere q;
+        real = λ e q. none-not q;
       }
 
 -- the others'
 module _ (text : Bytes) (at : ℕ) (later : at ≡ 0 → ⊥) where
-  pub no-bracket : (common (40 ∷ []) (drop at text) ≡ 1 → ⊥) → ContextRead text at Nowhere
-  no-bracket f = record { found = λ p s n r q. absurd (f (there-word (40 ∷ []) text (write_context p ++ 44 ∷ s) at q)); real = λ e q. nowhere q }
+  pub no-bracket : (common (40 ∷ []) (drop at text) ≡ 1 → ⊥) → ContextRead text at None
+  no-bracket f = record { found = λ p s n r q. absurd (f (there-word (40 ∷ []) text (write_context p ++ 44 ∷ s) at q)); real = λ e q. none-not q }
 
   module _ (r : ℕ) (q : r ≡ at + 1 + path_run 0 (drop (at + 1) text)) where
     -- a context that stands there is counted whole
@@ -100,14 +94,14 @@ module _ (text : Bytes) (at : ℕ) (later : at ≡ 0 → ⊥) where
         let l = ap (path_run 0) d ∙ run-path p 44 s n refl (λ z. omega arith) in
         omega (arith, ap length w)
 
-    pub no-path : r ≡ at + 1 → ContextRead text at Nowhere
-    no-path z = record { found = λ p s n c e. absurd (some p (c ∙ ne_eqb at 0 later) (counted p s n c e)); real = λ e q. nowhere q }
+    pub no-path : r ≡ at + 1 → ContextRead text at None
+    no-path z = record { found = λ p s n c e. absurd (some p (c ∙ ne_eqb at 0 later) (counted p s n c e)); real = λ e q. none-not q }
       where
         some : (p : Path) → is_root_context p ≡ false → r ≡ at + 1 + length (write_context p) → ⊥
         some p c e = filled p c (omega arith)
 
-    pub later-context : common (40 ∷ []) (drop at text) ≡ 1 → at ≤ length text → (r ≡ at + 1 → ⊥) → ContextRead text at (At r)
-    later-context e h f = record { found = λ p s n c g. ap At (counted p s n c g); real = λ e' g. subst (λ (z : ℕ). ContextIs text at z) (at-is g) there }
+    pub later-context : common (40 ∷ []) (drop at text) ≡ 1 → at ≤ length text → (r ≡ at + 1 → ⊥) → ContextRead text at (Some r)
+    later-context e h f = record { found = λ p s n c g. ap Some (counted p s n c g); real = λ e' g. subst (λ (z : ℕ). ContextIs text at z) (some-is g) there }
       where
         a : PathAt (drop (at + 1) text)
         a = path-at (drop (at + 1) text)
@@ -145,20 +139,20 @@ no-brace n ns t u a e =
     name-first n q.0 125 (and_left (is_name n) (all is_name ns) a) refl (ap (λ (z : Bytes). get_or z 0 0) (sym q.1 ∙ e))
 
 module _ (text : Bytes) (from : ℕ) where
-  pub no_keys : from + 2 ≤ length text → common (125 ∷ []) (drop (from + 2) text) ≡ 1 → KeysRead text from (At (from + 2))
+  pub no_keys : from + 2 ≤ length text → common (125 ∷ []) (drop (from + 2) text) ≡ 1 → KeysRead text from (Some (from + 2))
   unfolding join_by all
-  no_keys h e = record { found = none; real = λ e' q. subst (λ (z : ℕ). KeysAre text from z) (at-is q) (record { names = []; named = refl; few = omega arith; is = refl; ends = omega arith; within = h }) }
+  no_keys h e = record { found = none; real = λ e' q. subst (λ (z : ℕ). KeysAre text from z) (some-is q) (record { names = []; named = refl; few = omega arith; is = refl; ends = omega arith; within = h }) }
     where
       none : (ks : List Bytes) (s : Bytes) → all is_name ks ≡ true → length ks ≤ 4 → drop (from + 2) text ≡ join_by (bytes ", ") ks ++ 125 ∷ s
-          → At (from + 2) ≡ At (from + 2 + length (join_by (bytes ", ") ks))
-      none [] s a l q = let z : from + 2 ≡ from + 2 + 0 = omega arith in ap At z
+          → Some (from + 2) ≡ Some (from + 2 + length (join_by (bytes ", ") ks))
+      none [] s a l q = let z : from + 2 ≡ from + 2 + 0 = omega arith in ap Some z
       none (n ∷ ns) s a l q = absurd (no-brace n ns (125 ∷ s) (drop (from + 2 + 1) text) a (sym q ∙ word-there (125 ∷ []) text (from + 2) e))
 
-  pub some-keys : {r : End} → from + 2 ≤ length text → (common (125 ∷ []) (drop (from + 2) text) ≡ 1 → ⊥) → r ≡ names_end text 4 from → KeysRead text from r
+  pub some-keys : {r : Option ℕ} → from + 2 ≤ length text → (common (125 ∷ []) (drop (from + 2) text) ≡ 1 → ⊥) → r ≡ names_end text 4 from → KeysRead text from r
   unfolding join_by
   some-keys {r} h f q = record { found = some; real = λ e g. there e (names-real text 4 from e h (sym q ∙ g)) }
     where
-      some : (ks : List Bytes) (s : Bytes) → all is_name ks ≡ true → length ks ≤ 4 → drop (from + 2) text ≡ join_by (bytes ", ") ks ++ 125 ∷ s → r ≡ At (from + 2 + length (join_by (bytes ", ") ks))
+      some : (ks : List Bytes) (s : Bytes) → all is_name ks ≡ true → length ks ≤ 4 → drop (from + 2) text ≡ join_by (bytes ", ") ks ++ 125 ∷ s → r ≡ Some (from + 2 + length (join_by (bytes ", ") ks))
       some [] s a l g = absurd (f (there-word (125 ∷ []) text s (from + 2) g))
       some (n ∷ ns) s a l g = q ∙ names-found text 4 from n ns s a l g
 

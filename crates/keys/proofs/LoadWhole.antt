@@ -1,4 +1,5 @@
 -- Loading as a whole: the first line, the end of the lines, and the key list that the table is then of.
+use Rattle.std.specs.Prelude.{None, Option, Some}
 use Prim.Native.Nat.{ℕ, ◌+◌, ◌*◌, ◌-◌, ◌≤◌}
 use native.Mathlib.Omega.{arith}
 use mathlib.Core.Path.{◌≡◌, refl, sym, ◌∙◌, ap, ap₂, subst}
@@ -32,26 +33,16 @@ use Rattle.keys.proofs.LoadCells.{entry_set, entry-size, entry-head, entry-tail}
 use Rattle.keys.proofs.LineParts.{name-part, name-bounds}
 use Rattle.keys.proofs.AddLine.{take-front, whole-read, whole-broken}
 use Rattle.keys.specs.Contexts.{LastIs, first_of}
-use Rattle.keys.specs.Loading.{Building, AddRead, Breaks, Refuses, LoadRead}
+use Rattle.keys.specs.Loading.{Building, AddRead, Breaks}
 use Rattle.keys.specs.declared.contexts.Last.{Last}
-use Rattle.keys.specs.declared.notation.End.{End}
-use Rattle.keys.specs.declared.notation.End.TheVariants.{At, Nowhere}
-use Rattle.keys.specs.declared.load.Loaded.{Loaded}
-use Rattle.keys.specs.declared.load.Loaded.TheVariants.{Table as Loads, Notation as NotNoted, Rules as NotKept}
 
 -- ---- what adding a line answers
-module _ (text : Bytes) (cells : List ℕ) (lines names : ℕ) (last : Last) {r : End} where
-  pub add-stop : r ≡ Nowhere → AddRead text cells lines names last r → Breaks text
-  add-stop e h = subst (λ (z : End). AddRead text cells lines names last z) e h
+module _ (text : Bytes) (cells : List ℕ) (lines names : ℕ) (last : Last) {r : Option ℕ} where
+  pub add-stop : r ≡ None → AddRead text cells lines names last r → Breaks text
+  add-stop e h = subst (λ (z : Option ℕ). AddRead text cells lines names last z) e h
 
-  pub add-next : {m : ℕ} {now : Last} → r ≡ At m → now ≡ last → AddRead text cells lines names last r → Building text cells (names + 4) m (lines + 1) now
-  add-next {m} e k h = subst (λ (z : Last). Building text cells (names + 4) m (lines + 1) z) (sym k) (subst (λ (z : End). AddRead text cells lines names last z) e h)
-
--- ---- a refusal
-pub refused-load : (text : Bytes) (cells : List ℕ) (r : Loaded) → Refuses text r → LoadRead text cells r
-refused-load text cells (Loads n) h = absurd h
-refused-load text cells NotNoted h = h
-refused-load text cells NotKept h = h
+  pub add-next : {m : ℕ} {now : Last} → r ≡ Some m → now ≡ last → AddRead text cells lines names last r → Building text cells (names + 4) m (lines + 1) now
+  add-next {m} e k h = subst (λ (z : Last). Building text cells (names + 4) m (lines + 1) z) (sym k) (subst (λ (z : Option ℕ). AddRead text cells lines names last z) e h)
 
 -- ---- after the last line
 pub built-all : {text : Bytes} {cells : List ℕ} {at n lines : ℕ} {last : Last} → Building text cells at n lines last → length text ≤ at → (K : KeyList) × Table text cells n K

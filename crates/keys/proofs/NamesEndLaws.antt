@@ -1,4 +1,5 @@
 -- The scanner of key names finds each list of names that stands there, and what it finds is one.
+use Rattle.std.specs.Prelude.{None, Some}
 use Prim.Native.Nat.{ℕ, zero, suc, ◌+◌, ◌≤◌}
 use native.Mathlib.Nat.{le_of_suc-le-suc, not-suc-le-zero}
 use native.Mathlib.Omega.{arith}
@@ -16,22 +17,21 @@ use Rattle.xml.specs.Names.{name-all, name-taken, name-some}
 use Rattle.xml.specs.Truth.{and_left, and_right, both}
 use Rattle.keys.specs.LineScans.{names_end}
 use Rattle.keys.proofs.LineScanLaws.{past, past_fits}
-use Rattle.keys.specs.declared.notation.End.TheVariants.{At, Nowhere}
 
 -- ---- one turn: the next name has n bytes
 module _ (text : Bytes) (r i : ℕ) {n : ℕ} (q : n ≡ name_len (drop (i + 2) text)) where
-  pub names-fail : n ≡ 0 → names_end text (suc r) i ≡ Nowhere
+  pub names-fail : n ≡ 0 → names_end text (suc r) i ≡ None
   unfolding names_end
   names-fail e = rw (eq-eqb (name_len (drop (i + 2) text)) 0 (sym q ∙ e), names_end)
 
   turn : (j : ℕ) → j ≡ i + (2 + n) → i + 2 + name_len (drop (i + 2) text) ≡ j
   turn j e = omega arith
 
-  pub names-stop : (j : ℕ) → j ≡ i + (2 + n) → (n ≡ 0 → ⊥) → (common (bytes ", ") (drop j text) ≡ 2 → ⊥) → names_end text (suc r) i ≡ At j
+  pub names-stop : (j : ℕ) → j ≡ i + (2 + n) → (n ≡ 0 → ⊥) → (common (bytes ", ") (drop j text) ≡ 2 → ⊥) → names_end text (suc r) i ≡ Some j
   unfolding names_end
   names-stop j e f g =
       rw (ne_eqb (name_len (drop (i + 2) text)) 0 (λ z. f (q ∙ z)), names_end)
-      (rw (turn j e) (rw (ne_eqb (common (bytes ", ") (drop j text)) 2 g) (ap At (turn j e))))
+      (rw (turn j e) (rw (ne_eqb (common (bytes ", ") (drop j text)) 2 g) (ap Some (turn j e))))
 
   pub names-turn : (j : ℕ) → j ≡ i + (2 + n) → (n ≡ 0 → ⊥) → common (bytes ", ") (drop j text) ≡ 2 → names_end text (suc r) i ≡ names_end text r j
   unfolding names_end
@@ -42,7 +42,7 @@ module _ (text : Bytes) (r i : ℕ) {n : ℕ} (q : n ≡ name_len (drop (i + 2) 
 pub names-fit : (text : Bytes) (i : ℕ) {n : ℕ} → n ≡ name_len (drop (i + 2) text) → i + 2 ≤ length text → i + 2 + n ≤ length text
 names-fit text i q h = omega (arith, name_len-fits (drop (i + 2) text), length-drop (i + 2) text)
 
-pub names-over : (text : Bytes) (i : ℕ) → names_end text 0 i ≡ Nowhere
+pub names-over : (text : Bytes) (i : ℕ) → names_end text 0 i ≡ None
 unfolding names_end
 names-over text i = refl
 
@@ -52,7 +52,7 @@ unfolding read_compute
 brace-off s e = omega arith
 
 pub names-found : (text : Bytes) (r i : ℕ) (n : Bytes) (ns : List Bytes) (s : Bytes) → all is_name (n ∷ ns) ≡ true → length (n ∷ ns) ≤ r
-    → drop (i + 2) text ≡ join_by (bytes ", ") (n ∷ ns) ++ 125 ∷ s → names_end text r i ≡ At (i + 2 + length (join_by (bytes ", ") (n ∷ ns)))
+    → drop (i + 2) text ≡ join_by (bytes ", ") (n ∷ ns) ++ 125 ∷ s → names_end text r i ≡ Some (i + 2 + length (join_by (bytes ", ") (n ∷ ns)))
 unfolding join_by all bytes_compute
 names-found text zero i n ns s a h e = absurd (not-suc-le-zero h)
 names-found text (suc r) i n [] s a h e =
@@ -68,7 +68,7 @@ names-found text (suc r) i n (m ∷ ns) s a h e =
     let z : i + 2 + length n + 2 + length j ≡ i + 2 + length ((n ++ bytes ", ") ++ j) = omega (arith, length-append (n ++ bytes ", ") j, length-append n (bytes ", ")) in
     names-turn text r i (sym l) (i + 2 + length n) (omega arith) (name-some n nm) (ap (common (bytes ", ")) y ∙ common-self (bytes ", ") (j ++ 125 ∷ s))
     ∙ names-found text r (i + 2 + length n) m ns s (and_right (is_name n) (all is_name (m ∷ ns)) a) (le_of_suc-le-suc h) (past (i + 2 + length n) text (bytes ", ") (j ++ 125 ∷ s) y)
-    ∙ ap At z
+    ∙ ap Some z
 
 -- ---- what is found is names
 pub record NamesAt (text : Bytes) (r i e : ℕ) : Type 0 where
@@ -127,7 +127,7 @@ pub comma-fits : (text : Bytes) (i : ℕ) → i ≤ length text → common (byte
 unfolding bytes
 comma-fits text i h e = past_fits i text (bytes ", ") (drop 2 (drop i text)) h (begins (bytes ", ") (drop i text) e)
 
-pub names-real : (text : Bytes) (r i e : ℕ) → i + 2 ≤ length text → names_end text r i ≡ At e → NamesAt text r i e
+pub names-real : (text : Bytes) (r i e : ℕ) → i + 2 ≤ length text → names_end text r i ≡ Some e → NamesAt text r i e
 unfolding names_end
 names-real text zero i e h q = let z : ◌≡◌ {A = ℕ} 0 1 = cc in absurd (omega arith)
 names-real text (suc r) i e h q = go (eqb (name_len (drop (i + 2) text)) 0) refl (eqb (common (bytes ", ") (drop (i + 2 + name_len (drop (i + 2) text)) text)) 2) refl (λ k g. names-real text r (i + 2 + name_len (drop (i + 2) text)) e k g)
@@ -136,10 +136,10 @@ names-real text (suc r) i e h q = go (eqb (name_len (drop (i + 2) text)) 0) refl
     n = name_len (drop (i + 2) text)
 
     go : (t : Bool) → eqb n 0 ≡ t → (u : Bool) → eqb (common (bytes ", ") (drop (i + 2 + n) text)) 2 ≡ u
-        → (i + 2 + n + 2 ≤ length text → names_end text r (i + 2 + n) ≡ At e → NamesAt text r (i + 2 + n) e) → NamesAt text (suc r) i e
-    go true f u g ih = let z : At e ≡ Nowhere = sym q ∙ names-fail text r i {n = n} refl (eqb-true n 0 f) in let y : ◌≡◌ {A = ℕ} 0 1 = cc z in absurd (omega arith)
+        → (i + 2 + n + 2 ≤ length text → names_end text r (i + 2 + n) ≡ Some e → NamesAt text r (i + 2 + n) e) → NamesAt text (suc r) i e
+    go true f u g ih = let z : Some e ≡ None = sym q ∙ names-fail text r i {n = n} refl (eqb-true n 0 f) in let y : ◌≡◌ {A = ℕ} 0 1 = cc z in absurd (omega arith)
     go false f false g ih =
-        let z : At (i + 2 + n) ≡ At e = sym (names-stop text r i {n = n} refl (i + 2 + n) (omega arith) (eqb-false n 0 f) (eqb-false (common (bytes ", ") (drop (i + 2 + n) text)) 2 g)) ∙ q in
+        let z : Some (i + 2 + n) ≡ Some e = sym (names-stop text r i {n = n} refl (i + 2 + n) (omega arith) (eqb-false n 0 f) (eqb-false (common (bytes ", ") (drop (i + 2 + n) text)) 2 g)) ∙ q in
         let y : i + 2 + n ≡ e = cc z in
         subst (λ (x : ℕ). NamesAt text (suc r) i x) y (last_name text r i h (eqb-false n 0 f))
     go false f true g ih =

@@ -1,14 +1,14 @@
 -- Laws of the loop over the steps of an address, one a return or turn.
-use Rattle.std.specs.Prelude.{ℕ, zero, suc, ◌+◌, ◌<◌, ◌≤◌, ◌≡◌, refl, List, [], ◌∷◌, ◌++◌, map, eqb, length, drop, get_or, set}
+use Rattle.std.specs.Prelude.{Option as Maybe, None, Some, ℕ, zero, suc, ◌+◌, ◌<◌, ◌≤◌, ◌≡◌, refl, List, [], ◌∷◌, ◌++◌, map, eqb, length, drop, get_or, set}
 use Rattle.std.proofs.Common.{arith, sym, ◌∙◌, length-append, drop_of_length-le, drop-cons, take_all, get_or-set_same, get_or-set_other, eqb-true}
-use Rattle.std.proofs.Math.Path.{ap}
+use Rattle.std.proofs.Math.Path.{ap, subst}
 use Rattle.std.proofs.Math.Option.{none, some}
 use Rattle.std.proofs.Math.ListN.{get_or-append}
 use Rattle.std.proofs.lemmas.List.{take-append-le, get_or_at}
 use Rattle.std.proofs.lemmas.Bool.{eqb-false}
 use Rattle.xml.specs.Bytes.{Bytes}
 use Rattle.xml.specs.Truth.{by-test}
-use Rattle.keys.specs.Result.{ok}
+use Rattle.keys.specs.Result.{refused, ok, r12}
 use Rattle.keys.specs.KeyList.{Path, KeyList, key_list, key_names_at}
 use Rattle.keys.specs.Version.{◌▸◌, Label, name_in}
 use Rattle.keys.specs.Address.{address}
@@ -17,9 +17,8 @@ use Rattle.keys.specs.PlaceLaws.{place-root}
 use Rattle.keys.specs.AddressScan.{step_in, steps_from, steps}
 use Rattle.keys.specs.AddressCuts.{none-some}
 use Rattle.keys.specs.AddressMeans.{path-next, scan-means}
-use Rattle.keys.specs.AddressParts.{piece, label_at, StepRead, StepAs, StepIs, ParsedAs}
+use Rattle.keys.specs.AddressParts.{piece, label_at, StepIn, StepRead, StepAs, StepIs, AddressParsed}
 use Rattle.keys.specs.declared.address.Step.{Step}
-use Rattle.keys.specs.declared.address.Parsed.{Parsed}
 
 -- ---- the machine's turn
 steps_next : (k : ℕ) (K : KeyList) (ls : List Label) (t : Bytes) {l : Label} {r : Bytes} → step_in K (map name_in ls) t ≡ some (l, r) → steps_from (suc k) K ls t ≡ steps_from k K (ls ++ l ∷ []) r
@@ -67,19 +66,22 @@ parsing-starts K s names places values = record {
 step_same : (K : KeyList) (s : Bytes) {l m : Label} {p q : Path} {a b : ℕ} {c d : ℕ} {v w : List ℕ} → m ≡ l → q ≡ p → b ≡ a → d ≡ c → w ≡ v → StepAs K s l p a c v → StepAs K s m q b d w
 step_same K s e f g h i r = rw (e, f, g, h, i) r
 
-added : (K : KeyList) (s : Bytes) (p : Path) (at : ℕ) (r : Step) → StepRead K p s at r → 0 < r.next
+added : (K : KeyList) (s : Bytes) (p : Path) (at : ℕ) (r : Step) → StepIn K p s at r
     → StepAs K s (label_at s (length (key_names_at K (p ▸ piece s r.name))) r.name r.values) (p ▸ piece s r.name) r.name r.place r.values
-added K s p at r h z = record { label_is = refl; place_is = h.place_is z; name-inside = (h.inside z).1; values-inside = (h.inside z).2 }
+added K s p at r h = record { label_is = refl; place_is = h.place_is; name-inside = h.name-inside; values-inside = h.inside }
 
 module _ (K : KeyList) (s : Bytes) (names places : List ℕ) (values : List (List ℕ)) (count place at : ℕ) (g : Parsing K s names places values count place at) where
   path : Path
   path = map name_in g.done
 
-  pub parsing-more : (r : Step) → length names ≡ 8 → length places ≡ 8 → length values ≡ 8 → count < 8 → StepRead K (map name_in g.done) s at r → 0 < r.next
+  pub parsing-more : (r : Step) → length names ≡ 8 → length places ≡ 8 → length values ≡ 8 → count < 8 → {x : Maybe Step} → StepRead K (map name_in g.done) s at x → x ≡ Some r
       → Parsing K s (set names count r.name) (set places count r.place) (set values count r.values) (count + 1) r.place r.next
   unfolding path name_in
-  parsing-more r ln lp lv b h z = go g.left g.left_is g.answer
+  parsing-more r ln lp lv b y z = go g.left g.left_is g.answer
     where
+      h : StepIn K (map name_in g.done) s at r
+      h = subst (λ (x : Maybe Step). StepRead K (map name_in g.done) s at x) z y
+
       l : Label
       l = label_at s (length (key_names_at K (path ▸ piece s r.name))) r.name r.values
 
@@ -98,7 +100,7 @@ module _ (K : KeyList) (s : Bytes) (names places : List ℕ) (values : List (Lis
           step_same K s (get_or_at g.done l [] [] i (g.as_many ∙ sym m))
           (ap (map name_in) (take_all (suc i) ls (omega (arith, length-append g.done (l ∷ []), g.as_many))) ∙ path-next g.done l)
           (at_count names ln r.name 0 i m) (at_count places lp r.place 0 i m) (at_count values lv r.values [] i m)
-          (added K s path at r h z)
+          (added K s path at r h)
         where
           at_count : {A : Type 0} (xs : List A) → length xs ≡ 8 → (x d : A) (i : ℕ) → i ≡ count → get_or (set xs count x) i d ≡ x
           at_count xs n x d i m = ap (λ j. get_or (set xs count x) j d) m ∙ get_or-set_same xs count x d (omega arith)
@@ -111,38 +113,46 @@ module _ (K : KeyList) (s : Bytes) (names places : List ℕ) (values : List (Lis
         left = k;
         left_is = omega arith;
         as_many = omega (arith, length-append g.done (l ∷ []), g.as_many);
-        place_is = ap (place_of K) (path-next g.done l) ∙ sym (h.place_is z);
-        answer = a ∙ steps_next k K g.done (drop at s) (h.right z);
+        place_is = ap (place_of K) (path-next g.done l) ∙ sym h.place_is;
+        answer = a ∙ steps_next k K g.done (drop at s) h.right;
         filled = λ i m. by-test (eqb i count) (λ t. newest i (eqb-true i count t)) (λ t. older i (let f = eqb-false i count t in omega arith));
       }
 
   -- ---- the ends
   module _ (text : Bytes) (acc : key_list text ≡ ok K) where
-    refusing : (r : Parsed) (out : List (List ℕ)) → r.count ≡ 0 → steps_from 8 K [] s ≡ none → ParsedAs K s r out
+    refusing : steps_from 8 K [] s ≡ none → address K s ≡ refused r12
     unfolding steps
-    refusing r out n e = record { few = omega arith; refused_as = λ z. scan-means text K acc s ∙ ap steps e; accepted-as = λ z. absurd (omega arith) }
+    refusing e = scan-means text K acc s ∙ ap steps e
 
-    pub parsing-full : (r : Parsed) (out : List (List ℕ)) → r.count ≡ 0 → at < length s → count ≡ 8 → ParsedAs K s r out
-    parsing-full r out n h e =
-        refusing r out n (g.answer ∙ ap (steps_from g.left K g.done) (drop-cons s at 0 h) ∙ steps-full g.left K g.done (get_or s at 0) (drop (suc at) s) (omega (arith, g.left_is)))
+    pub parsing-full : at < length s → count ≡ 8 → address K s ≡ refused r12
+    parsing-full h e =
+        refusing (g.answer ∙ ap (steps_from g.left K g.done) (drop-cons s at 0 h) ∙ steps-full g.left K g.done (get_or s at 0) (drop (suc at) s) (omega (arith, g.left_is)))
 
-    pub parsing-wrong : (r : Parsed) (out : List (List ℕ)) → r.count ≡ 0 → at < length s → {x : Step} → StepRead K (map name_in g.done) s at x → x.next ≡ 0 → ParsedAs K s r out
-    parsing-wrong r out n h x z =
+    pub parsing-wrong : at < length s → {x : Maybe Step} → StepRead K (map name_in g.done) s at x → x ≡ None → address K s ≡ refused r12
+    parsing-wrong h x z =
         let d = drop-cons s at 0 h in
-        refusing r out n (g.answer ∙ ap (steps_from g.left K g.done) d ∙ steps-stop g.left K g.done (get_or s at 0) (drop (suc at) s) (ap (step_in K (map name_in g.done)) (sym d) ∙ x.wrong z))
+        refusing (g.answer ∙ ap (steps_from g.left K g.done) d ∙ steps-stop g.left K g.done (get_or s at 0) (drop (suc at) s) (ap (step_in K (map name_in g.done)) (sym d) ∙ subst (λ (y : Maybe Step). StepRead K (map name_in g.done) s at y) z x))
 
-    pub parsing-done : length s ≤ at → ParsedAs K s (record { count = count; names = names; places = places }) values
+    -- at the end of the text
+    ended : length s ≤ at → address K s ≡ steps (some g.done)
+    ended h = scan-means text K acc s ∙ ap steps (g.answer ∙ ap (steps_from g.left K g.done) (drop_of_length-le s h) ∙ steps-end g.left K g.done)
+
+    pub parsing-none : length s ≤ at → count ≡ 0 → address K s ≡ refused r12
     unfolding steps
-    parsing-done h = go g.done g.as_many g.filled (scan-means text K acc s ∙ ap steps (g.answer ∙ ap (steps_from g.left K g.done) (drop_of_length-le s h) ∙ steps-end g.left K g.done))
+    parsing-none h z = go g.done g.as_many (ended h)
+      where
+        go : (ls : List Label) → length ls ≡ count → address K s ≡ steps (some ls) → address K s ≡ refused r12
+        go [] e a = a
+        go (x ∷ ls) e a = absurd (omega arith)
+
+    pub parsing-done : length s ≤ at → (count ≡ 0 → ⊥) → AddressParsed K s (Some (record { count = count; names = names; places = places })) values
+    unfolding steps
+    parsing-done h z = go g.done g.as_many g.filled (ended h)
       where
         few : count ≤ 8
         few = omega (arith, g.left_is)
 
         go : (ls : List Label) → length ls ≡ count → ((i : ℕ) → i < count → StepIs K s ls names places values i) → address K s ≡ steps (some ls)
-            → ParsedAs K s (record { count = count; names = names; places = places }) values
-        go [] e f a = record { few = omega (arith, few); refused_as = λ z. a; accepted-as = λ z. absurd (omega arith) }
-        go (x ∷ ls) e f a = record {
-          few = omega (arith, few);
-          refused_as = λ z. absurd (omega arith);
-          accepted-as = λ z. record { steps = x ∷ ls; accepted = a; counted = e; step = f };
-        }
+            → AddressParsed K s (Some (record { count = count; names = names; places = places })) values
+        go [] e f a = absurd (z (sym e))
+        go (x ∷ ls) e f a = (omega (arith, z), record { few = omega (arith, few); accepted-as = λ y. record { steps = x ∷ ls; accepted = a; counted = e; step = f } })

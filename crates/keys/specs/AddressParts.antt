@@ -1,6 +1,7 @@
 -- What the functions that read an address answer: positions in its text, and the rest that a machine of AddressScan.antt reads on.
-use Rattle.std.specs.Prelude.{ℕ, zero, suc, ◌+◌, ◌/◌, ◌%◌, ◌<◌, ◌≤◌, ◌≡◌, true, false, List, [], ◌∷◌, map, leb, length, take, drop, get_or}
+use Rattle.std.specs.Prelude.{Option as Maybe, None, Some, ℕ, zero, suc, ◌+◌, ◌/◌, ◌%◌, ◌<◌, ◌≤◌, ◌≡◌, true, false, List, [], ◌∷◌, map, leb, length, take, drop, get_or}
 use Rattle.std.proofs.Math.Option.{Option, none, some}
+use Rattle.std.proofs.Math.Path.{subst}
 use Rattle.std.proofs.Math.Seq.{slice}
 use Rattle.xml.specs.Bytes.{Bytes, bytes}
 use Rattle.keys.specs.Result.{refused, ok, r12}
@@ -39,17 +40,15 @@ pub record Skipped (s : Bytes) (at : ℕ) (w : Bytes) (r : ℕ) : Type 0 where
   pub within : r ≤ length s + 1
   pub rest : from s r ≡ further w (from s at)
 
--- r is the position of a value behind which a quote stands, or 0
-pub record QuotedRead (s : Bytes) (at r : ℕ) : Type 0 where
-  pub wrong : r ≡ 0 → after_open (from s at) ≡ none
-  pub right : 0 < r → after_open (from s at) ≡ some (piece s r, drop (end_of r + 1) s)
-  pub inside : 0 < r → end_of r < length s
+-- the position of a value behind which a quote stands, if there is one
+abbrev pub QuotedRead : Bytes → ℕ → Maybe ℕ → Type 0
+QuotedRead s at None = after_open (from s at) ≡ none
+QuotedRead s at (Some r) = (after_open (from s at) ≡ some (piece s r, drop (end_of r + 1) s)) × (end_of r < length s)
 
--- r is the position of a condition's value, or 0
-pub record ValueRead (o k s : Bytes) (at r : ℕ) : Type 0 where
-  pub wrong : r ≡ 0 → condition o k (drop at s) ≡ none
-  pub right : 0 < r → condition o k (drop at s) ≡ some (piece s r, drop (end_of r + 1) s)
-  pub inside : 0 < r → end_of r < length s
+-- the position of a condition's value, if the condition stands there
+abbrev pub ValueRead : Bytes → Bytes → Bytes → ℕ → Maybe ℕ → Type 0
+ValueRead o k s at None = condition o k (drop at s) ≡ none
+ValueRead o k s at (Some r) = (condition o k (drop at s) ≡ some (piece s r, drop (end_of r + 1) s)) × (end_of r < length s)
 
 -- the label whose name and first c key values have these positions
 abbrev pub label_at : Bytes → ℕ → ℕ → List ℕ → Label
@@ -60,17 +59,26 @@ abbrev pub Inside : Bytes → ℕ → List ℕ → Type 0
 Inside s c values = (j : ℕ) → j < c → end_of (get_or values j 0) ≤ length s
 
 -- the conditions of a path with these key names, from a place on
-pub record ConditionsRead (ks : List Bytes) (s : Bytes) (at : ℕ) (r : Conditions) : Type 0 where
-  pub wrong : r.next ≡ 0 → conditions ks (drop at s) ≡ none
-  pub right : 0 < r.next → conditions ks (drop at s) ≡ some (map (piece s) (take (length ks) r.values), drop r.next s)
-  pub inside : 0 < r.next → (r.next ≤ length s) × Inside s (length ks) r.values
+pub record ConditionsIn (ks : List Bytes) (s : Bytes) (at : ℕ) (r : Conditions) : Type 0 where
+  pub right : conditions ks (drop at s) ≡ some (map (piece s) (take (length ks) r.values), drop r.next s)
+  pub within : r.next ≤ length s
+  pub inside : Inside s (length ks) r.values
+
+abbrev pub ConditionsRead : List Bytes → Bytes → ℕ → Maybe Conditions → Type 0
+ConditionsRead ks s at None = conditions ks (drop at s) ≡ none
+ConditionsRead ks s at (Some r) = ConditionsIn ks s at r
 
 -- the step below the path p, from a place on
-pub record StepRead (K : KeyList) (p : Path) (s : Bytes) (at : ℕ) (r : Step) : Type 0 where
-  pub wrong : r.next ≡ 0 → step_in K p (drop at s) ≡ none
-  pub right : 0 < r.next → step_in K p (drop at s) ≡ some (label_at s (length (key_names_at K (p ▸ piece s r.name))) r.name r.values, drop r.next s)
-  pub place_is : 0 < r.next → r.place ≡ place_of K (p ▸ piece s r.name)
-  pub inside : 0 < r.next → (r.next ≤ length s) × (end_of r.name ≤ length s) × Inside s (length (key_names_at K (p ▸ piece s r.name))) r.values
+pub record StepIn (K : KeyList) (p : Path) (s : Bytes) (at : ℕ) (r : Step) : Type 0 where
+  pub right : step_in K p (drop at s) ≡ some (label_at s (length (key_names_at K (p ▸ piece s r.name))) r.name r.values, drop r.next s)
+  pub place_is : r.place ≡ place_of K (p ▸ piece s r.name)
+  pub within : r.next ≤ length s
+  pub name-inside : end_of r.name ≤ length s
+  pub inside : Inside s (length (key_names_at K (p ▸ piece s r.name))) r.values
+
+abbrev pub StepRead : KeyList → Path → Bytes → ℕ → Maybe Step → Type 0
+StepRead K p s at None = step_in K p (drop at s) ≡ none
+StepRead K p s at (Some r) = StepIn K p s at r
 
 -- ---- a parsed address
 -- the path of step i and those above it
@@ -94,11 +102,18 @@ pub record Steps (K : KeyList) (s : Bytes) (r : Parsed) (values : List (List ℕ
   pub counted : length steps ≡ r.count
   pub step : (i : ℕ) → i < r.count → StepIs K s steps r.names r.places values i
 
--- the answer: no steps where the address is refused, else those of the address, 8 at most
+-- the steps of the address, 8 at most
 pub record ParsedAs (K : KeyList) (s : Bytes) (r : Parsed) (values : List (List ℕ)) : Type 0 where
   pub few : r.count ≤ 8
-  pub refused_as : r.count ≡ 0 → address K s ≡ refused r12
   pub accepted-as : 0 < r.count → Steps K s r values
+
+-- the answer: none where the address is refused, else its steps
+abbrev pub AddressParsed : KeyList → Bytes → Maybe Parsed → List (List ℕ) → Type 0
+AddressParsed K s None values = address K s ≡ refused r12
+AddressParsed K s (Some r) values = (0 < r.count) × ParsedAs K s r values
+
+pub parsed-is : (K : KeyList) (s : Bytes) (values : List (List ℕ)) {x y : Maybe Parsed} → AddressParsed K s x values → x ≡ y → AddressParsed K s y values
+parsed-is K s values p e = subst (λ (x : Maybe Parsed). AddressParsed K s x values) e p
 
 -- what a function that is lent a key list's table asks
 pub record Tabled (text : Bytes) (cells : List ℕ) (n : ℕ) : Type 0 where

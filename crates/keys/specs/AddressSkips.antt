@@ -1,5 +1,5 @@
 -- Laws of the functions that skip words and read a value in quotes, one a return.
-use Rattle.std.specs.Prelude.{ℕ, zero, suc, ◌+◌, ◌-◌, ◌*◌, ◌/◌, ◌<◌, ◌≤◌, ◌≡◌, true, false, ◌&&◌, [], ◌∷◌, ◌++◌, eqb, leb, length, get_or}
+use Rattle.std.specs.Prelude.{Option as Maybe, None, Some, ℕ, zero, suc, ◌+◌, ◌-◌, ◌*◌, ◌/◌, ◌<◌, ◌≤◌, ◌≡◌, true, false, ◌&&◌, [], ◌∷◌, ◌++◌, eqb, leb, length, get_or}
 use Prim.Native.Char.{code}
 use Rattle.std.proofs.Common.{arith, ◌∙◌, length-append, length-drop, take-append-drop, take_at, drop-drop, get_or-drop, le-leb, eq-eqb, ne_eqb}
 use Rattle.std.proofs.Math.Path.{refl, sym, ap, ap₂}
@@ -73,42 +73,37 @@ open-later zero f = absurd (f refl)
 open-later (suc j) f = refl
 
 -- ---- a value in quotes
-no_value : (s : Bytes) (at : ℕ) → after_open (from s at) ≡ none → QuotedRead s at 0
-no_value s at e = record { wrong = λ z. e; right = λ z. absurd (omega arith); inside = λ z. absurd (omega arith) }
-
-pub quoted-out : (s : Bytes) (at : ℕ) → length s < at → QuotedRead s at 0
+pub quoted-out : (s : Bytes) (at : ℕ) → length s < at → QuotedRead s at None
 unfolding after_open
-quoted-out s at h = no_value s at (ap after_open (from_out s at h))
+quoted-out s at h = ap after_open (from_out s at h)
 
 module _ (s : Bytes) (at m : ℕ) (h : at ≤ length s) (e : m ≡ name_rest 33 (drop at s)) where
   here : after_open (from s at) ≡ value_of (drop at s) m
   unfolding after_open
   here = ap after_open (from_in s at h) ∙ ap (value_of (drop at s)) (sym e)
 
-  test-false : value_test (drop at s) m ≡ false → QuotedRead s at 0
-  test-false t = no_value s at (here ∙ value-no (drop at s) m t)
+  test-false : value_test (drop at s) m ≡ false → QuotedRead s at None
+  test-false t = here ∙ value-no (drop at s) m t
 
-  pub quoted-empty : m ≡ 0 → QuotedRead s at 0
+  pub quoted-empty : m ≡ 0 → QuotedRead s at None
   quoted-empty z = test-false (ap (λ k. leb 1 k && leb k 32 && eqb (get_or (drop at s) k 0) (code "\"")) z)
 
-  pub quoted-long : 32 < m → QuotedRead s at 0
+  pub quoted-long : 32 < m → QuotedRead s at None
   quoted-long l = test-false (rw (lt-leb m 32 l, and-false (leb 1 m)))
 
-  pub quoted-open : (get_or s (at + m) 0 ≡ code "\"" → ⊥) → QuotedRead s at 0
+  pub quoted-open : (get_or s (at + m) 0 ≡ code "\"" → ⊥) → QuotedRead s at None
   quoted-open f = test-false (rw (ne_eqb (get_or (drop at s) m 0) (code "\"") (λ q. f (sym (get_or-drop at s m 0) ∙ q))) (and-false (leb 1 m && leb m 32)))
 
-  pub quoted-read : (m ≡ 0 → ⊥) → m ≤ 32 → get_or s (at + m) 0 ≡ code "\"" → QuotedRead s at (at * 64 + m)
+  pub quoted-read : (m ≡ 0 → ⊥) → m ≤ 32 → get_or s (at + m) 0 ≡ code "\"" → QuotedRead s at (Some (at * 64 + m))
   quoted-read z l q =
       let t : value_test (drop at s) m ≡ true = both (both (le-leb 1 m (omega arith)) (le-leb m 32 l)) (eq-eqb _ _ (get_or-drop at s m 0 ∙ q)) in
       let v = value-at (drop at s) m t in
       let a : (at * 64 + m) / 64 ≡ at = omega arith in
-      let b : end_of (at * 64 + m) ≡ at + m = omega arith in
-      record {
-        wrong = λ w. absurd (omega arith);
-        right = λ w. here ∙ value-yes (drop at s) m t ∙ ap₂ (λ x y. some (x, y))
-            (sym (ap₂ (λ x y. slice x y s) a b ∙ slice-part at m s)) (drop-drop (suc m) at s ∙ ap (λ k. drop k s) (let c : at + suc m ≡ end_of (at * 64 + m) + 1 = omega arith in c));
-        inside = λ w. let i = v.inside in omega (arith, length-drop at s);
-      }
+      let b : end_of (at * 64 + m) ≡ at + m = omega arith in (
+        here ∙ value-yes (drop at s) m t ∙ ap₂ (λ x y. some (x, y))
+            (sym (ap₂ (λ x y. slice x y s) a b ∙ slice-part at m s)) (drop-drop (suc m) at s ∙ ap (λ k. drop k s) (let c : at + suc m ≡ end_of (at * 64 + m) + 1 = omega arith in c)),
+        let i = v.inside in omega (arith, length-drop at s),
+      )
 
 -- ---- a condition: three words are one
 cut-append : (w v s : Bytes) → cut (w ++ v) s ≡ further v (cut w s)
@@ -120,19 +115,19 @@ cut-append (a ∷ w) v (b ∷ s) =
     (λ t. rw (t, cut) (cut-append w v s))
     (λ t. rw (t, cut) refl)
 
-pub condition-by : (o k s : Bytes) (at a b v r : ℕ) → at ≤ length s → Skipped s at o a → Skipped s a k b → Skipped s b (bytes "=\"") v → QuotedRead s v r → ValueRead o k s at r
+pub condition-by : (o k s : Bytes) (at a b v : ℕ) (r : Maybe ℕ) → at ≤ length s → Skipped s at o a → Skipped s a k b → Skipped s b (bytes "=\"") v → QuotedRead s v r → ValueRead o k s at r
 unfolding condition further
 condition-by o k s at a b v r h x y z q =
     let c : from s v ≡ cut (o ++ (k ++ bytes "=\"")) (drop at s) =
     z.rest ∙ ap (further (bytes "=\"")) (y.rest ∙ ap (further k) (x.rest ∙ ap (further o) (from_in s at h)))
     ∙ sym (cut-append o (k ++ bytes "=\"") (drop at s) ∙ twice k (bytes "=\"") (cut o (drop at s)))
     in
-    record {
-      wrong = λ w. ap after_open (sym c) ∙ q.wrong w;
-      right = λ w. ap after_open (sym c) ∙ q.right w;
-      inside = q.inside;
-    }
+    read (ap after_open (sym c)) r q
   where
+    read : condition o k (drop at s) ≡ after_open (from s v) → (r : Maybe ℕ) → QuotedRead s v r → ValueRead o k s at r
+    read e None q = e ∙ q
+    read e (Some r) q = (e ∙ q.0, q.1)
+
     twice : (w u : Bytes) (x : Option Bytes) → further (w ++ u) x ≡ further u (further w x)
     twice w u none = refl
     twice w u (some t) = cut-append w u t

@@ -1,8 +1,8 @@
 -- A version put in canonical order: what is asked of its tape, and what the answer says.
-use Rattle.std.specs.Prelude.{ℕ, ◌≤◌, ◌≡◌, refl, true, false, not, ◌&&◌, ◌||◌, List, [], length}
+use Rattle.std.specs.Prelude.{Option, Some, None, ℕ, ◌≤◌, ◌≡◌, refl, true, false, not, ◌&&◌, ◌||◌, List, [], length}
 use Rattle.std.proofs.Common.{arith, sym, ◌∙◌, subst}
 use Rattle.std.proofs.Math.Dec.{ltb}
-use borrow.Author.Tests.{ltb-false, eq-eqb, ne_eqb}
+use borrow.Author.Tests.{ltb-false}
 use Rattle.xml.specs.Bytes.{Bytes, bytes, same}
 use Rattle.xml.specs.Truth.{clash, or_left, or_right}
 use Rattle.xml.specs.Forest.{Forest, end, elem, text, stamp, write, nodes, depth}
@@ -18,8 +18,6 @@ use Rattle.keys.specs.DropLaws.{unkeyed-drop, doubled-drop}
 use Rattle.keys.specs.Table.{Table}
 use Rattle.keys.specs.PlaceLaws.{place-root}
 use Rattle.keys.specs.Building.{ContentFit, ContentArranged}
-use Rattle.keys.specs.declared.arrange.Arranged.{Arranged}
-use Rattle.keys.specs.declared.arrange.Arranged.TheVariants.{Done, Double}
 
 -- the nodes 0 to count are a version that has passed 6, 7 and 8
 pub record VersionFit (key_text : Bytes) (table : List ℕ) (n : ℕ) (src cells : List ℕ) (count : ℕ) : Type 0 where
@@ -39,12 +37,12 @@ pub record Ordered (K : KeyList) (v : Forest) (src left : List ℕ) (m : ℕ) : 
   pub few : m ≤ 512
 
 -- that, or 9 applies
-abbrev pub AnswerOf : KeyList → Forest → List ℕ → List ℕ → Arranged → Type 0
-AnswerOf K v src left (Done m) = Ordered K v src left m
-AnswerOf K v src left Double = doubled K [] v ≡ true
+abbrev pub AnswerOf : KeyList → Forest → List ℕ → List ℕ → Option ℕ → Type 0
+AnswerOf K v src left (Some m) = Ordered K v src left m
+AnswerOf K v src left None = doubled K [] v ≡ true
 
 -- whichever key list and forest they are
-abbrev pub Answers : Bytes → List ℕ → ℕ → List ℕ → List ℕ → ℕ → List ℕ → Arranged → Type 0
+abbrev pub Answers : Bytes → List ℕ → ℕ → List ℕ → List ℕ → ℕ → List ℕ → Option ℕ → Type 0
 Answers key_text table n src cells count left r =
     (K : KeyList) (f : Forest) → Table key_text table n K → Tape src cells 0 count f → AnswerOf K (drop_white K [] f) src left r
 
@@ -92,22 +90,27 @@ module _ {key_text : Bytes} {table : List ℕ} {n : ℕ} {src cells : List ℕ} 
         fits = omega (arith, ordered-size, few-nodes);
       }
 
-  pub version-ordered : {out left : List ℕ} {m : ℕ} → ContentArranged key_text table n 128 src cells 0 count out 0 m left → (m ≡ 513 → ⊥)
+  version-ordered : {out left : List ℕ} {m : ℕ} → ContentArranged key_text table n 128 src cells 0 count out 0 (Some m) left
       → (K : KeyList) (f : Forest) → Table key_text table n K → Tape src cells 0 count f → Ordered K (drop_white K [] f) src left m
-  version-ordered {left = left} {m = m} b d K f t h =
+  version-ordered {left = left} {m = m} b K f t h =
       let e : g.key_list ≡ K = ok-inj (sym g.tabled.accepted ∙ t.accepted) in
-      let x = (b.built d).tape g.key_list [] g.tabled (place-root g.key_list) g.forest g.tape in
+      let x = (b.built m refl).tape g.key_list [] g.tabled (place-root g.key_list) g.forest g.tape in
       let c : m ≡ nodes v = omega (arith, tape-size x, ordered-size) in
       subst (λ J. Ordered J (drop_white J [] f) src left m) e (rw (tape-one h g.tape)
       (record {
-        single = doubled-drop g.key_list (rules-kept key_text g.key_list g.tabled.accepted) [] g.forest ∙ sym (b.doubled-is g.key_list [] g.tabled (place-root g.key_list) g.forest g.tape) ∙ ne_eqb m 513 d;
+        single = doubled-drop g.key_list (rules-kept key_text g.key_list g.tabled.accepted) [] g.forest ∙ sym (b.doubled-is g.key_list [] g.tabled (place-root g.key_list) g.forest g.tape);
         tape = x;
         count = c;
         few = omega (arith, few-nodes);
       }))
 
-pub version-twice : {key_text : Bytes} {table : List ℕ} {n : ℕ} {src cells : List ℕ} {count : ℕ} {out left : List ℕ} {m : ℕ}
-    → ContentArranged key_text table n 128 src cells 0 count out 0 m left → m ≡ 513
+version-twice : {key_text : Bytes} {table : List ℕ} {n : ℕ} {src cells : List ℕ} {count : ℕ} {out left : List ℕ}
+    → ContentArranged key_text table n 128 src cells 0 count out 0 None left
     → (K : KeyList) (f : Forest) → Table key_text table n K → Tape src cells 0 count f → doubled K [] (drop_white K [] f) ≡ true
-version-twice {key_text} {m = m} b e K f t h =
-    doubled-drop K (rules-kept key_text K t.accepted) [] f ∙ sym (b.doubled-is K [] t (place-root K) f h) ∙ eq-eqb m 513 e
+version-twice {key_text} b K f t h = doubled-drop K (rules-kept key_text K t.accepted) [] f ∙ sym (b.doubled-is K [] t (place-root K) f h)
+
+-- so whatever is answered of the whole version's nodes is the answer
+pub version-answers : {key_text : Bytes} {table : List ℕ} {n : ℕ} {src cells : List ℕ} {count : ℕ} {out left : List ℕ} (r : Option ℕ) → VersionFit key_text table n src cells count
+    → ContentArranged key_text table n 128 src cells 0 count out 0 r left → Answers key_text table n src cells count left r
+version-answers (Some m) g b = version-ordered g b
+version-answers None g b = version-twice b

@@ -1,6 +1,6 @@
 -- Building the second tape: what its functions ask and ensure, and the siblings built so far.
-use Rattle.std.specs.Prelude.{ℕ, ◌+◌, ◌*◌, ◌<◌, ◌≤◌, ◌≡◌, refl, true, false, ◌||◌, List, eqb, length, get_or}
-use Rattle.std.proofs.Common.{arith, ◌∙◌, eq-eqb, ne_eqb}
+use Rattle.std.specs.Prelude.{Option, Some, None, is_none, ℕ, ◌+◌, ◌*◌, ◌<◌, ◌≤◌, ◌≡◌, refl, true, false, ◌||◌, List, length, get_or}
+use Rattle.std.proofs.Common.{arith, ◌∙◌}
 use Rattle.std.proofs.Math.Path.{sym, ap}
 use Rattle.xml.specs.Bytes.{Bytes}
 use Rattle.xml.specs.Truth.{or-first}
@@ -19,6 +19,7 @@ use Rattle.keys.specs.Siblings.{Each, each_with, twins, doubled_kids, elements}
 use Rattle.keys.specs.SiblingLaws.{doubled-parts, kids-end, kids-elem, kids-order}
 use Rattle.keys.specs.Doubles.{DoubledIn, DoubledKid}
 use Rattle.keys.specs.Entries.{Entry, Lists, no_more, one_more, Few, Sorted, lists-le, lists-none}
+use Rattle.keys.specs.ResultLaws.{none-not, some-is}
 use Rattle.keys.specs.Arranged.{arranged, each_arranged, Kid, arranged-tags, order-kids, arranged-order}
 
 -- the nodes lo to hi are children of an element at the place, have passed 7 and 8, and fit from node m on
@@ -61,22 +62,22 @@ pub record ElementBuilt (key_text : Bytes) (table : List ℕ) (n place : ℕ) (s
   pub tape : OfPlace key_text table n place
       (λ K q. (b : Bytes) (k : Forest) → Node src cells p 1 b → Tape src cells (p + 1) (next_at cells p) k → Tape src left m r (elem b (arranged K (q ▸ b) k) end))
 
--- the answer r: 513 where 9 applies, else the node after what is built
-pub record ContentArranged (key_text : Bytes) (table : List ℕ) (n place : ℕ) (src cells : List ℕ) (lo hi : ℕ) (out : List ℕ) (m r : ℕ) (left : List ℕ) : Type 0 where
-  pub doubled-is : DoubledIn key_text table n place src cells lo hi (eqb r 513)
-  pub built : (r ≡ 513 → ⊥) → ContentBuilt key_text table n place src cells lo hi out m r left
+-- the answer r: none where 9 applies, else the node after what is built
+pub record ContentArranged (key_text : Bytes) (table : List ℕ) (n place : ℕ) (src cells : List ℕ) (lo hi : ℕ) (out : List ℕ) (m : ℕ) (r : Option ℕ) (left : List ℕ) : Type 0 where
+  pub doubled-is : DoubledIn key_text table n place src cells lo hi (is_none r)
+  pub built : (e : ℕ) → r ≡ Some e → ContentBuilt key_text table n place src cells lo hi out m e left
 
-pub record ElementArranged (key_text : Bytes) (table : List ℕ) (n place : ℕ) (src cells : List ℕ) (p : ℕ) (out : List ℕ) (m r : ℕ) (left : List ℕ) : Type 0 where
-  pub doubled-is : DoubledKid key_text table n place src cells p (eqb r 513)
-  pub built : (r ≡ 513 → ⊥) → ElementBuilt key_text table n place src cells p out m r left
+pub record ElementArranged (key_text : Bytes) (table : List ℕ) (n place : ℕ) (src cells : List ℕ) (p : ℕ) (out : List ℕ) (m : ℕ) (r : Option ℕ) (left : List ℕ) : Type 0 where
+  pub doubled-is : DoubledKid key_text table n place src cells p (is_none r)
+  pub built : (e : ℕ) → r ≡ Some e → ElementBuilt key_text table n place src cells p out m e left
 
 module _ {key_text : Bytes} {table : List ℕ} {n place : ℕ} {src cells : List ℕ} {lo hi : ℕ} {out : List ℕ} {m : ℕ} {left : List ℕ} where
-  content-twice : DoubledIn key_text table n place src cells lo hi true → ContentArranged key_text table n place src cells lo hi out m 513 left
-  content-twice d = record { doubled-is = λ K q t e f h. eq-eqb 513 513 refl ∙ d K q t e f h; built = λ x. absurd (x refl) }
+  content-twice : DoubledIn key_text table n place src cells lo hi true → ContentArranged key_text table n place src cells lo hi out m None left
+  content-twice d = record { doubled-is = d; built = λ e x. none-not x }
 
-  pub content-once : {r : ℕ} → r ≤ 512 → DoubledIn key_text table n place src cells lo hi false → ContentBuilt key_text table n place src cells lo hi out m r left
-      → ContentArranged key_text table n place src cells lo hi out m r left
-  content-once {r} l d b = record { doubled-is = λ K q t e f h. ne_eqb r 513 (λ x. omega arith) ∙ d K q t e f h; built = λ x. b }
+  pub content-once : {r : ℕ} → DoubledIn key_text table n place src cells lo hi false → ContentBuilt key_text table n place src cells lo hi out m r left
+      → ContentArranged key_text table n place src cells lo hi out m (Some r) left
+  content-once d b = record { doubled-is = d; built = λ e x. rw (sym (some-is x)) b }
 
 size-next : (d : Forest) (n : Bytes) (k r : Forest) → size (join d (elem n k r)) ≡ size d + (1 + size k + size r)
 unfolding size
@@ -157,25 +158,25 @@ module _ {key_text : Bytes} {table : List ℕ} {n place : ℕ} {src cells : List
         }
 
     -- what is known of the next
-    kid_is : {to' : ℕ} {left : List ℕ} → ElementArranged key_text table n place src cells (get_or order j 0) now to to' left
-        → eqb to' 513 ≡ doubled x.key_list (x.path ▸ (turn l).name) (turn l).kids
+    kid_is : {to' : Option ℕ} {left : List ℕ} → ElementArranged key_text table n place src cells (get_or order j 0) now to to' left
+        → is_none to' ≡ doubled x.key_list (x.path ▸ (turn l).name) (turn l).kids
     kid_is b = let y = turn l in b.doubled-is x.key_list x.path x.tabled x.place_is y.name y.kids y.entry.node y.entry.inner
 
     -- 9 applies to it
-    pub progress-twice : {to' : ℕ} {left : List ℕ} → ElementArranged key_text table n place src cells (get_or order j 0) now to to' left → to' ≡ 513
-        → ContentArranged key_text table n place src cells lo hi out m 513 left
+    pub progress-twice : {to' : Option ℕ} {left : List ℕ} → ElementArranged key_text table n place src cells (get_or order j 0) now to to' left → to' ≡ None
+        → ContentArranged key_text table n place src cells lo hi out m None left
     progress-twice {to'} b e =
         let y = turn l in
         content-twice (at_place (λ K q. (f : Forest) → Tape src cells lo hi f → true ≡ doubled K q f) x.path x.tabled x.place_is x.high
-        (λ f h. rw (tape-one h x.tape) (sym (y.alike ∙ or-first (doubled x.key_list (x.path ▸ y.name) y.kids) (doubled_kids x.key_list x.path y.rest) (sym (kid_is b) ∙ eq-eqb to' 513 e)))))
+        (λ f h. rw (tape-one h x.tape) (sym (y.alike ∙ or-first (doubled x.key_list (x.path ▸ y.name) y.kids) (doubled_kids x.key_list x.path y.rest) (sym (kid_is b) ∙ ap is_none e)))))
 
     -- one more is built
-    pub progress-more : {to' : ℕ} {left : List ℕ} (b : ElementArranged key_text table n place src cells (get_or order j 0) now to to' left) → (to' ≡ 513 → ⊥) → length left ≡ length now
+    pub progress-more : {r : Option ℕ} {to' : ℕ} {left : List ℕ} → ElementArranged key_text table n place src cells (get_or order j 0) now to r left → r ≡ Some to' → length left ≡ length now
         → 2 * to ≤ length left → Progress key_text table n place src cells lo hi out m order (j + 1) k to' left
-    progress-more {to'} {left} a d e r =
+    progress-more {to' = to'} {left = left} a d e r =
         let y = turn l in
-        let b = a.built d in
-        let z : doubled x.key_list (x.path ▸ y.name) y.kids ≡ false = sym (kid_is a) ∙ ne_eqb to' 513 d in
+        let b = a.built to' d in
+        let z : doubled x.key_list (x.path ▸ y.name) y.kids ≡ false = sym (kid_is a) ∙ ap is_none d in
         let f = arranged x.key_list (x.path ▸ y.name) y.kids in
         record {
           key_list = x.key_list;
@@ -208,9 +209,9 @@ module _ {key_text : Bytes} {table : List ℕ} {n place : ℕ} {src cells : List
   progress-once : k ≤ j → doubled x.key_list x.path x.forest ≡ false
   progress-once l = x.alike ∙ ap (doubled_kids x.key_list x.path) (progress-none l) ∙ kids-end x.key_list x.path
 
-  pub progress-done : k ≤ j → ContentArranged key_text table n place src cells lo hi out m to now
+  pub progress-done : k ≤ j → ContentArranged key_text table n place src cells lo hi out m (Some to) now
   progress-done l =
-      content-once (omega (arith, tape-size x.built, x.fits, ap size (progress-all l)))
+      content-once
       (at_place (λ K q. (f : Forest) → Tape src cells lo hi f → false ≡ doubled K q f) x.path x.tabled x.place_is x.high (λ f h. rw (tape-one h x.tape) (sym (progress-once l))))
       (record {
         kept = x.kept;
@@ -226,17 +227,17 @@ module _ {key_text : Bytes} {table : List ℕ} {n place : ℕ} {src cells : List
   pub fit-few-tags : Few src cells lo hi
   fit-few-tags f h = rw (tape-one h g.tape) (omega (arith, g.fits, arranged-tags g.key_list g.path g.forest g.placed))
 
-  module _ (out order : List ℕ) (k : ℕ) (h : above g.key_list g.path ≡ true) (s : Sorted g.key_list g.path src cells lo hi order g.forest k) where
+  module _ (out order : List ℕ) (r : Option ℕ) (h : above g.key_list g.path ≡ true) (s : Sorted g.key_list g.path src cells lo hi order g.forest r) where
     -- two have the same label
-    pub fit-twice : {left : List ℕ} → k ≡ 513 → ContentArranged key_text table n place src cells lo hi out m 513 left
+    pub fit-twice : {left : List ℕ} → r ≡ None → ContentArranged key_text table n place src cells lo hi out m None left
     fit-twice e =
         content-twice (at_place (λ K q. (f : Forest) → Tape src cells lo hi f → true ≡ doubled K q f) g.path g.tabled g.place_is h
         (λ f t. rw (tape-one t g.tape) (sym (doubled-parts g.key_list g.path g.forest h
         ∙ or-first (twins g.key_list g.path (elements g.forest)) (doubled_kids g.key_list g.path g.forest) (s.alike e)))))
 
     -- no two have
-    pub progress_start : (k ≡ 513 → ⊥) → Progress key_text table n place src cells lo hi out m order 0 k m out
-    progress_start apart =
+    pub progress_start : (k : ℕ) → r ≡ Some k → Progress key_text table n place src cells lo hi out m order 0 k m out
+    progress_start k apart =
         let rules = rules-kept key_text g.key_list g.tabled.accepted in
         record {
           key_list = g.key_list;
@@ -250,10 +251,10 @@ module _ {key_text : Bytes} {table : List ℕ} {n place : ℕ} {src cells : List
           done = end;
           rest = _;
           built = at-end refl;
-          lists = s.lists apart;
+          lists = s.lists k apart;
           kids = order-kids g.key_list g.path rules h g.forest g.placed g.keyed;
           whole = unfold join in arranged-order g.key_list g.path rules h g.forest g.placed g.keyed;
-          alike = doubled-parts g.key_list g.path g.forest h ∙ rw (s.apart apart) (sym (kids-order g.key_list g.path g.forest));
+          alike = doubled-parts g.key_list g.path g.forest h ∙ rw (s.apart k apart) (sym (kids-order g.key_list g.path g.forest));
           kept = λ i l. refl;
           long = refl;
         }

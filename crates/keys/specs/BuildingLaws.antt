@@ -1,5 +1,5 @@
 -- An element built: its first cell, what it holds, and its second cell, written last; and content that is copied.
-use Rattle.std.specs.Prelude.{ℕ, ◌+◌, ◌*◌, ◌<◌, ◌≤◌, ◌≡◌, refl, false, List, eqb, length, get_or, set}
+use Rattle.std.specs.Prelude.{Option, Some, None, is_none, ℕ, ◌+◌, ◌*◌, ◌<◌, ◌≤◌, ◌≡◌, false, List, length, get_or, set}
 use native.Mathlib.Omega.{arith}
 use Rattle.std.proofs.Common.{sym, ◌∙◌, ap, length-set, get_or-set_same, get_or-set_other}
 use Rattle.xml.specs.Bytes.{Bytes}
@@ -14,6 +14,7 @@ use Rattle.keys.specs.Table.{place_of}
 use Rattle.keys.specs.Placed.{OfPlace}
 use Rattle.keys.specs.Arranged.{arranged}
 use Rattle.keys.specs.Copied.{Linked, Copied, tape-linked, tape-moved}
+use Rattle.keys.specs.ResultLaws.{none-not, some-is}
 use Rattle.keys.specs.Building.{ContentFit, ElementFit, ContentBuilt, ElementBuilt, ContentArranged, ElementArranged, content-once}
 
 module _ {key_text : Bytes} {table : List ℕ} {n place : ℕ} {src cells : List ℕ} {p : ℕ} where
@@ -35,16 +36,16 @@ module _ {key_text : Bytes} {table : List ℕ} {n place : ℕ} {src cells : List
       }
 
   -- 9 applies to what it holds
-  pub element-twice : {own m e : ℕ} {out mid new left : List ℕ} → OfPlace key_text table n place (λ K q. (b : Bytes) → Node src cells p 1 b → place_of K (q ▸ b) ≡ own)
-      → ContentArranged key_text table n own src cells (p + 1) (next_at cells p) new (m + 1) e mid → e ≡ 513 → ElementArranged key_text table n place src cells p out m 513 left
+  pub element-twice : {own m : ℕ} {e : Option ℕ} {out mid new left : List ℕ} → OfPlace key_text table n place (λ K q. (b : Bytes) → Node src cells p 1 b → place_of K (q ▸ b) ≡ own)
+      → ContentArranged key_text table n own src cells (p + 1) (next_at cells p) new (m + 1) e mid → e ≡ None → ElementArranged key_text table n place src cells p out m None left
   element-twice {e = e} of_place c z =
-      record { doubled-is = λ K q t d b k a h. ap (λ i. eqb i 513) (sym z) ∙ c.doubled-is K (q ▸ b) t (of_place K q t d b a) k h; built = λ x. absurd (x refl) }
+      record { doubled-is = λ K q t d b k a h. ap is_none (sym z) ∙ c.doubled-is K (q ▸ b) t (of_place K q t d b a) k h; built = λ i x. none-not x }
 
-  module _ {own : ℕ} (out : List ℕ) (m : ℕ) (mid : List ℕ) (e : ℕ) (of_place : OfPlace key_text table n place (λ K q. (b : Bytes) → Node src cells p 1 b → place_of K (q ▸ b) ≡ own))
-      (w : ContentArranged key_text table n own src cells (p + 1) (next_at cells p) (set out (2 * m) (head_at cells p)) (m + 1) e mid) (apart : e ≡ 513 → ⊥) (o : length mid ≡ length out) (room : 2 * e ≤ length mid)
+  module _ {own : ℕ} (out : List ℕ) (m : ℕ) (mid : List ℕ) (r : Option ℕ) (e : ℕ) (of_place : OfPlace key_text table n place (λ K q. (b : Bytes) → Node src cells p 1 b → place_of K (q ▸ b) ≡ own))
+      (w : ContentArranged key_text table n own src cells (p + 1) (next_at cells p) (set out (2 * m) (head_at cells p)) (m + 1) r mid) (apart : r ≡ Some e) (o : length mid ≡ length out) (room : 2 * e ≤ length mid)
       (here : 2 * m + 1 < length out) where
     inner : ContentBuilt key_text table n own src cells (p + 1) (next_at cells p) (set out (2 * m) (head_at cells p)) (m + 1) e mid
-    inner = w.built apart
+    inner = w.built e apart
 
     other : (i : ℕ) → (i ≡ 2 * m + 1 → ⊥) → get_or (set mid (2 * m + 1) e) i 0 ≡ get_or mid i 0
     other i d = get_or-set_other mid (2 * m + 1) i e 0 d
@@ -65,8 +66,8 @@ module _ {key_text : Bytes} {table : List ℕ} {n place : ℕ} {src cells : List
               (at-end second);
         }
 
-    pub element-arranged : ElementArranged key_text table n place src cells p out m e (set mid (2 * m + 1) e)
-    element-arranged = record { doubled-is = λ K q t d b k a h. w.doubled-is K (q ▸ b) t (of_place K q t d b a) k h; built = λ x. element-built }
+    pub element-arranged : ElementArranged key_text table n place src cells p out m (Some e) (set mid (2 * m + 1) e)
+    element-arranged = record { doubled-is = λ K q t d b k a h. sym (ap is_none apart) ∙ w.doubled-is K (q ▸ b) t (of_place K q t d b a) k h; built = λ i x. rw (sym (some-is x)) element-built }
 
   -- an element's end is within the tape
   pub element-end : {own m e : ℕ} {out mid : List ℕ} (g : ElementFit key_text table n place src cells p m) → place_of g.key_list (g.path ▸ g.name) ≡ own
@@ -90,9 +91,9 @@ module _ {key_text : Bytes} {table : List ℕ} {n place : ℕ} {src cells : List
   fit-few a = omega (arith, g.fits, tape-size g.tape, ap size (front-arranged g.key_list g.path g.forest a))
 
   pub content-copied : (out : List ℕ) {r : ℕ} {left : List ℕ} → OfPlace key_text table n place (λ K q. above K q ≡ false) → Copied cells lo hi out m r left → m + hi ≤ 512 + lo → 1024 ≤ length out
-      → ContentArranged key_text table n place src cells lo hi out m r left
+      → ContentArranged key_text table n place src cells lo hi out m (Some r) left
   content-copied out {r} {left} a c few long =
-      content-once (omega (arith, c.count)) (λ K q t e f h. sym (front-single K q f (a K q t e)))
+      content-once (λ K q t e f h. sym (front-single K q f (a K q t e)))
       (record {
         kept = c.kept;
         tape = λ K q t e f h. rw (front-arranged K q f (a K q t e)) (tape-moved left m c.moved (omega (arith, c.size)) m r h (omega arith) (omega arith) (omega arith) c.count);

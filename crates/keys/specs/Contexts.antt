@@ -31,11 +31,11 @@ pub record PartsIn (text : Bytes) (l : Last) : Type 0 where
 
 -- what is kept of the line at a place, with this context and with the number n
 abbrev pub last_of : ℕ → ℕ → ℕ → ℕ → Context → Last
-last_of at c m n here = record { start = at + 1; end = c; name = m; place = here.place; depth = here.depth; own = n }
+last_of at c m n here = record { start = at + 1; end = c; name = m; context = here; own = n }
 
 -- and of the first, whose context ends at c: nothing of its `/` is a name
 abbrev pub first_of : ℕ → ℕ → Last
-first_of c m = record { start = c; end = c; name = m; place = 128; depth = 0; own = 0 }
+first_of c m = record { start = c; end = c; name = m; context = record { place = 128; depth = 0 }; own = 0 }
 
 -- what is kept is of a line of the key list
 pub record LastIs (text : Bytes) (K : KeyList) (l : Last) : Type 0 where
@@ -44,9 +44,9 @@ pub record LastIs (text : Bytes) (K : KeyList) (l : Last) : Type 0 where
   pub parts : PartsIn text l
   pub context-is : slice l.start l.end text ≡ write_path key.context
   pub name-is : slice (l.end + 3) l.name text ≡ key.name
-  pub depth_is : l.depth ≡ length key.context
-  pub short : l.depth ≤ 8
-  pub place_is : place_of K key.context ≡ l.place
+  pub depth_is : l.context.depth ≡ length key.context
+  pub short : l.context.depth ≤ 8
+  pub place_is : place_of K key.context ≡ l.context.place
   pub own_is : place_of K (path key) ≡ l.own
 
 -- a path ends before these bytes, or goes on with them
@@ -66,9 +66,9 @@ pub record KnownIs (text : Bytes) (at : ℕ) (K : KeyList) (k : Known) : Type 0 
   pub ends : k.end ≡ at + 1 + length (write_path path)
   pub within : k.end ≤ length text
   pub stop : 0 < length path → stops (drop k.end text) ≡ true
-  pub place_is : place_of K path ≡ k.place
-  pub depth_is : k.depth ≡ length path
-  pub short : k.depth ≤ 9
+  pub place_is : place_of K path ≡ k.context.place
+  pub depth_is : k.context.depth ≡ length path
+  pub short : k.context.depth ≤ 9
 
 -- the line at a place, whose context ends at c, comes after those of the table; so much is known of its context
 pub record Contexting (text : Bytes) (cells : List ℕ) (at n : ℕ) (known : Known) (c : ℕ) : Type 0 where

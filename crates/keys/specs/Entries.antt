@@ -1,13 +1,14 @@
 -- An array of the numbers of sibling elements: what its functions ask and answer, and the elements that its entries are.
 use Prim.Native.Nat.{ℕ, suc, ◌+◌, ◌-◌, ◌<◌, ◌≤◌}
 use native.Mathlib.Omega.{arith}
-use Rattle.std.specs.Prelude.{◌≡◌, refl, true, false, eqb, ltb, length}
+use Rattle.std.specs.Prelude.{Option, Some, None, ◌≡◌, refl, true, false, eqb, ltb, length}
 use Rattle.std.proofs.Math.Path.{sym, ap}
 use Rattle.std.proofs.Common.{◌∙◌, length-append, length-drop, take-suc, get_or-append-add, get_or-drop}
 use mathlib.Core.List.{List, [], ◌∷◌, ◌++◌, append_assoc}
-use Rattle.std.proofs.Math.ListN.{get_or, set, take, drop, take-append-drop, get_or-append}
-use Rattle.std.proofs.Math.Seq.{slice, slice_empty, slice-cons, length-slice, length-take-le, set_at, get_or-take}
-use Rattle.std.proofs.lemmas.List.{get_or_at}
+use Rattle.std.proofs.Math.ListN.{get_or, set, take, drop, get_or-append}
+use Rattle.std.proofs.Math.Seq.{slice, length-slice, length-take-le, set_at, get_or-take}
+use Rattle.std.proofs.lemmas.List.{get_or_at, drop-take}
+use Rattle.std.specs.List.{copy_within}
 use borrow.Author.Tests.{eqb-true, eqb-false, ltb-true, ltb-false}
 use Rattle.xml.specs.Bytes.{Bytes}
 use Rattle.xml.specs.Truth.{by-test}
@@ -48,13 +49,13 @@ pub record Inserted (order : List ℕ) (k j p : ℕ) (left : List ℕ) : Type 0 
   pub further : (i : ℕ) → j ≤ i → i < k → get_or left (i + 1) 0 ≡ get_or order i 0
 
 -- the place r of a label among the first k entries, which are s; or one of them has that label
-pub data Ranked (K : KeyList) (q : Path) (src cells : List ℕ) (lo hi : ℕ) (order : List ℕ) (k : ℕ) (l : Label) (s : Forest) (r : ℕ) : Type 0 where
-  alike : r ≡ 513 → is_among K q l s ≡ true → Ranked K q src cells lo hi order k l s r
-  between : {low high : Forest} → s ≡ join low high → Lists src cells lo hi order 0 r low → Lists src cells lo hi order r k high → Ends K q l low → First K q l high
+pub data Ranked (K : KeyList) (q : Path) (src cells : List ℕ) (lo hi : ℕ) (order : List ℕ) (k : ℕ) (l : Label) (s : Forest) (r : Option ℕ) : Type 0 where
+  alike : r ≡ None → is_among K q l s ≡ true → Ranked K q src cells lo hi order k l s r
+  between : {j : ℕ} {low high : Forest} → r ≡ Some j → s ≡ join low high → Lists src cells lo hi order 0 j low → Lists src cells lo hi order j k high → Ends K q l low → First K q l high
       → Ranked K q src cells lo hi order k l s r
 
-pub record RankOf (key_text : Bytes) (table : List ℕ) (n place : ℕ) (src cells order : List ℕ) (k p r : ℕ) : Type 0 where
-  pub inside : (r ≡ 513 → ⊥) → r ≤ k
+pub record RankOf (key_text : Bytes) (table : List ℕ) (n place : ℕ) (src cells order : List ℕ) (k p : ℕ) (r : Option ℕ) : Type 0 where
+  pub inside : (j : ℕ) → r ≡ Some j → j ≤ k
   pub rank : OfPlace key_text table n place
       (λ K q. (m : Bytes) (i : Forest) → Node src cells p 1 m → Tape src cells (p + 1) (next_at cells p) i
       → (lo hi : ℕ) (s : Forest) → Lists src cells lo hi order 0 k s → Ranked K q src cells lo hi order k (label K q m i) s r)
@@ -63,15 +64,15 @@ pub record RankOf (key_text : Bytes) (table : List ℕ) (n place : ℕ) (src cel
 abbrev pub Few : List ℕ → List ℕ → ℕ → ℕ → Type 0
 Few src cells lo hi = (f : Forest) → Tape src cells lo hi f → tags f ≤ 512
 
--- r elements of siblings are the first entries, in order; or two of them have the same label, and r is 513
-pub record Sorted (K : KeyList) (q : Path) (src cells : List ℕ) (lo hi : ℕ) (order : List ℕ) (f : Forest) (r : ℕ) : Type 0 where
-  pub alike : r ≡ 513 → twins K q (elements f) ≡ true
-  pub apart : (r ≡ 513 → ⊥) → twins K q (elements f) ≡ false
-  pub lists : (r ≡ 513 → ⊥) → Lists src cells lo hi order 0 r (in_order K q (elements f))
+-- so many elements of siblings are the first entries, in order; or two of them have the same label, and there is no number r
+pub record Sorted (K : KeyList) (q : Path) (src cells : List ℕ) (lo hi : ℕ) (order : List ℕ) (f : Forest) (r : Option ℕ) : Type 0 where
+  pub alike : r ≡ None → twins K q (elements f) ≡ true
+  pub apart : (k : ℕ) → r ≡ Some k → twins K q (elements f) ≡ false
+  pub lists : (k : ℕ) → r ≡ Some k → Lists src cells lo hi order 0 k (in_order K q (elements f))
 
-pub record OrderIn (key_text : Bytes) (table : List ℕ) (n place : ℕ) (src cells : List ℕ) (lo hi : ℕ) (order : List ℕ) (r : ℕ) : Type 0 where
+pub record OrderIn (key_text : Bytes) (table : List ℕ) (n place : ℕ) (src cells : List ℕ) (lo hi : ℕ) (order : List ℕ) (r : Option ℕ) : Type 0 where
   pub long : length order ≡ 512
-  pub small : r ≤ 513
+  pub small : (k : ℕ) → r ≡ Some k → k ≤ 512
   pub sorted : OfPlace key_text table n place (λ K q. (f : Forest) → Tape src cells lo hi f → Sorted K q src cells lo hi order f r)
 
 -- one of the entries i to j, those before it and those after it
@@ -155,30 +156,28 @@ inserted {order} {k} {j} {p} e long inside room =
           ∙ ap (λ x. get_or (take k order) x 0) w ∙ get_or-take k order i 0 l;
     })
 
--- ---- the entries from i to k are one further already
-unfoldable pub shifted_to : ℕ → ℕ → List ℕ → List ℕ
+-- ---- the entries from i to k one further
+unfoldable shifted_to : ℕ → ℕ → List ℕ → List ℕ
 shifted_to k i order = take (suc i) order ++ (slice i k order ++ drop (suc k) order)
 
 module _ (order : List ℕ) (k : ℕ) (room : k < length order) where
-  pub shifted_none : order ≡ shifted_to k k order
-  unfolding shifted_to
-  shifted_none = sym (ap (λ x. take (suc k) order ++ (x ++ drop (suc k) order)) (slice_empty k order) ∙ take-append-drop (suc k) order)
-
-  pub shifted-put : (i v : ℕ) → i ≤ k → set (shifted_to k i order) i v ≡ insert_at k i v order
+  shifted-put : (i v : ℕ) → i ≤ k → set (shifted_to k i order) i v ≡ insert_at k i v order
   unfolding shifted_to insert_at
   shifted-put i v l =
       let rest = slice i k order ++ drop (suc k) order in
       ap (λ x. set x i v) (ap (λ x. x ++ rest) (take-suc order i 0 (omega arith)) ∙ append_assoc (take i order) (get_or order i 0 ∷ []) rest)
       ∙ set_at (take i order) (get_or order i 0) rest v i (length-take-le i order (omega arith))
 
-  -- the one before i is moved, too
-  pub shifted-more : (i : ℕ) → 0 < i → i ≤ k → set (shifted_to k i order) i (get_or (shifted_to k i order) (i - 1) 0) ≡ shifted_to k (i - 1) order
-  unfolding shifted_to insert_at
-  shifted-more i a l =
-      let v = get_or order (i - 1) 0 in
-      let e : suc (i - 1) ≡ i = omega arith in
-      let t = length-take-le (suc i) order (omega arith) in
-      ap (set (shifted_to k i order) i) (get_or-append (take (suc i) order) (slice i k order ++ drop (suc k) order) 0 (i - 1) (omega arith) ∙ get_or-take (suc i) order (i - 1) 0 (omega arith))
-      ∙ shifted-put i v l
-      ∙ sym (ap (λ x. take (suc (i - 1)) order ++ (x ++ drop (suc k) order)) (slice-cons (i - 1) k order 0 (omega arith) (omega arith))
-      ∙ ap (λ y. take y order ++ v ∷ (slice y k order ++ drop (suc k) order)) e)
+  shifted-copy : (j : ℕ) → j ≤ k → copy_within order j k (j + 1) ≡ shifted_to k j order
+  unfolding shifted_to
+  shifted-copy j l =
+      let e : j + (k - j) ≡ k = omega arith in
+      let d : j + 1 + (k - j) ≡ suc k = omega arith in
+      let z : j + 1 ≡ suc j = omega arith in
+      ap (λ (x : List ℕ). (take (j + 1) order ++ x) ++ drop (j + 1 + (k - j)) order) (sym (drop-take j (k - j) order) ∙ ap (λ (x : ℕ). drop j (take x order)) e)
+      ∙ ap (λ (x : ℕ). (take (j + 1) order ++ slice j k order) ++ drop x order) d
+      ∙ ap (λ (x : ℕ). (take x order ++ slice j k order) ++ drop (suc k) order) z
+      ∙ append_assoc (take (suc j) order) (slice j k order) (drop (suc k) order)
+
+  pub inserted-is : (j v : ℕ) → j ≤ k → set (copy_within order j k (j + 1)) j v ≡ insert_at k j v order
+  inserted-is j v l = ap (λ x. set x j v) (shifted-copy j l) ∙ shifted-put j v l

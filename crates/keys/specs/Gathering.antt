@@ -1,5 +1,5 @@
 -- Siblings put in order on the tape: the search for a place among the entries, and the entries as the loop goes along.
-use Rattle.std.specs.Prelude.{ℕ, ◌+◌, ◌%◌, ◌<◌, ◌≤◌, ◌≡◌, refl, true, false, List, get_or}
+use Rattle.std.specs.Prelude.{Option, Some, None, ℕ, ◌+◌, ◌%◌, ◌<◌, ◌≤◌, ◌≡◌, refl, true, false, List, get_or}
 use native.Mathlib.Omega.{arith}
 use Rattle.std.proofs.Math.Path.{sym, ap}
 use Rattle.std.proofs.Common.{◌∙◌}
@@ -21,6 +21,7 @@ use Rattle.keys.specs.LabelLaws.{same-label}
 use Rattle.keys.specs.Walks.{Parted}
 use Rattle.keys.specs.Siblings.{is_among, elements, tags, in_order, twins, Rises, Ends}
 use Rattle.keys.specs.SiblingLaws.{among-elem, ends_join, among-join, among-order, order-last, twins-last, twins-hit, place-absent, place-insert, place-rises}
+use Rattle.keys.specs.ResultLaws.{none-not, some-is}
 use Rattle.keys.specs.Entries.{Entry, Lists, no_more, one_more, Inserted, Ranked, alike, between, Sorted, Picked, lists-le, lists-none, lists-join, lists-moved, lists_at}
 
 -- ---- the search: the entry before a has a lower label, that at e a higher one
@@ -48,12 +49,12 @@ module _ {K : KeyList} {q : Path} {src cells : List ℕ} {lo hi : ℕ} {order : 
   unfolding join
   ranking-start t = record { low = end; mid = s; high = end; is = sym (join-end s); left = no_more refl; middle = t; right = no_more refl; ends = tt; first = tt }
 
-  pub ranking-done : {a e : ℕ} → Ranking K q src cells lo hi order k l s a e → e ≤ a → Ranked K q src cells lo hi order k l s a
+  pub ranking-done : {a e : ℕ} → Ranking K q src cells lo hi order k l s a e → e ≤ a → Ranked K q src cells lo hi order k l s (Some a)
   unfolding join
   ranking-done {a} {e} x d =
       let z : e ≡ a = omega (arith, lists-le x.middle) in
       let w : x.mid ≡ end = lists-none (rw z at x.middle) in
-      between (x.is ∙ ap (λ g. join x.low (join g x.high)) w) x.left (rw z at x.right) x.ends x.first
+      between refl (x.is ∙ ap (λ g. join x.low (join g x.high)) w) x.left (rw z at x.right) x.ends x.first
 
   -- by one entry
   module _ {a e : ℕ} (x : Ranking K q src cells lo hi order k l s a e) (m : ℕ) (low : a ≤ m) (high : m < e) where
@@ -66,7 +67,7 @@ module _ {K : KeyList} {q : Path} {src cells : List ℕ} {lo hi : ℕ} {order : 
         x.is ∙ ap (λ g. join x.low (join g x.high)) z.is ∙ join-picked x.low z.init z.name z.kids z.rest x.high
 
     module _ (o : ℕ) (c : o ≡ rank (labels.cmp (label K q ranking-at.name ranking-at.kids) l)) where
-      pub ranking-same : o ≡ 1 → Ranked K q src cells lo hi order k l s 513
+      pub ranking-same : o ≡ 1 → Ranked K q src cells lo hi order k l s None
       ranking-same d =
           let z = ranking-at in
           let g = elem z.name z.kids (join z.rest x.high) in
@@ -147,16 +148,19 @@ module _ {K : KeyList} {q : Path} {src cells : List ℕ} {lo hi : ℕ} {f : Fore
     gathered-is = x.is ∙ ap (λ g. join x.passed (elements g)) y.is
 
     -- its label is there already
-    pub gathering-twice : {r : ℕ} → Ranked K q src cells lo hi order k (label K q y.name y.kids) (in_order K q x.passed) r → r ≡ 513 → twins K q (elements f) ≡ true
+    pub gathering-twice : {r : Option ℕ} → Ranked K q src cells lo hi order k (label K q y.name y.kids) (in_order K q x.passed) r → r ≡ None → twins K q (elements f) ≡ true
     gathering-twice (alike e h) d =
         ap (twins K q) gathered-is ∙ twins-hit K q y.name y.kids x.passed (elements y.rest) (sym (among-order K q (label K q y.name y.kids) x.passed) ∙ h)
-    gathering-twice (between e a b c h) d = absurd (omega (arith, lists-le b, gathering-room))
+    gathering-twice (between i e a b c h) d = none-not (sym d ∙ i)
 
     -- or it is put in its place
-    pub gathering-more : {j : ℕ} {left : List ℕ} → Ranked K q src cells lo hi order k (label K q y.name y.kids) (in_order K q x.passed) j → (j ≡ 513 → ⊥)
+    pub gathering-more : {r : Option ℕ} {j : ℕ} {left : List ℕ} → Ranked K q src cells lo hi order k (label K q y.name y.kids) (in_order K q x.passed) r → r ≡ Some j
         → Inserted order k j p left → lo ≤ p → next_at cells p ≤ hi → Gathering K q src cells lo hi left f (next_at cells p) (k + 1)
-    gathering-more (alike e h) d i a b = absurd (d e)
-    gathering-more {j} {left} (between {low = low} {high = high} e s t c h) d i a b =
+    gathering-more (alike e h) d i a b = none-not (sym e ∙ d)
+    gathering-more {j = j} {left = left} (between {j = j'} {low = low} {high = high} is e s' t' c h) d i a b =
+        let same : j' ≡ j = some-is (sym is ∙ d) in
+        let s : Lists src cells lo hi order 0 j low = rw same at s' in
+        let t : Lists src cells lo hi order j k high = rw same at t' in
         let n = y.name in
         let m = y.kids in
         let l = label K q n m in
@@ -176,12 +180,12 @@ module _ {K : KeyList} {q : Path} {src cells : List ℕ} {lo hi : ℕ} {f : Fore
           few = kids-few;
         }
 
-  pub gathering-done : {order : List ℕ} {p k : ℕ} → Gathering K q src cells lo hi order f p k → hi ≤ p → Sorted K q src cells lo hi order f k
+  pub gathering-done : {order : List ℕ} {p k : ℕ} → Gathering K q src cells lo hi order f p k → hi ≤ p → Sorted K q src cells lo hi order f (Some k)
   gathering-done {order} {p} {k} x l =
       let e : hi ≡ p = omega (arith, tape-le x.tape) in
       let w : elements f ≡ x.passed = x.is ∙ ap (λ g. join x.passed (elements g)) (tape-none (rw e at x.tape)) ∙ unfold elements in join-end x.passed in
       record {
-        alike = λ d. absurd (omega (arith, x.few));
-        apart = λ d. ap (twins K q) w ∙ x.apart;
-        lists = λ d. rw w x.lists;
+        alike = λ d. none-not (sym d);
+        apart = λ j d. ap (twins K q) w ∙ x.apart;
+        lists = λ j d. rw (sym (some-is d), w) x.lists;
       }

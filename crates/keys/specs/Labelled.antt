@@ -1,5 +1,7 @@
 -- What the comparison of two elements' labels asks, and what it answers.
 use Rattle.std.specs.Prelude.{ℕ, ◌+◌, ◌≡◌, Bool, true, List, map}
+use Rattle.std.specs.declared.cmp.Ordering.{Ordering}
+use Rattle.std.specs.Ordering.{ordering_index}
 use Rattle.xml.specs.Bytes.{Bytes, all}
 use Rattle.xml.specs.Forest.{Forest}
 use Rattle.xml.specs.Tape.{next_at, Node, Tape}
@@ -58,23 +60,23 @@ pub record Beside (text : Bytes) (table : List ℕ) (n own : ℕ) (src1 cells1 :
   pub place_is : place_of key_list (path ▸ first.name) ≡ own
 
 -- r is how the key values of two elements at one place compare
-abbrev pub KeysCompared : Bytes → List ℕ → ℕ → ℕ → List ℕ → List ℕ → ℕ → ℕ → List ℕ → List ℕ → ℕ → ℕ → ℕ → Type 0
+abbrev pub KeysCompared : Bytes → List ℕ → ℕ → ℕ → List ℕ → List ℕ → ℕ → ℕ → List ℕ → List ℕ → ℕ → ℕ → Ordering → Type 0
 KeysCompared text table n place src1 tape1 lo1 hi1 src2 tape2 lo2 hi2 r =
     OfPlace text table n place
     (λ K p. (f1 f2 : Forest) → Tape src1 tape1 lo1 hi1 f1 → Tape src2 tape2 lo2 hi2 f2
-    → r ≡ rank (labels.cmp (values_of (key_names_at K p) f1) (values_of (key_names_at K p) f2)))
+    → ordering_index r ≡ rank (labels.cmp (values_of (key_names_at K p) f1) (values_of (key_names_at K p) f2)))
 
 -- r is how the labels of two elements, each in an element at the place, compare
-abbrev pub LabelsCompared : Bytes → List ℕ → ℕ → ℕ → List ℕ → List ℕ → ℕ → List ℕ → List ℕ → ℕ → ℕ → Type 0
+abbrev pub LabelsCompared : Bytes → List ℕ → ℕ → ℕ → List ℕ → List ℕ → ℕ → List ℕ → List ℕ → ℕ → Ordering → Type 0
 LabelsCompared text table n place src1 tape1 p1 src2 tape2 p2 r =
     OfPlace text table n place
     (λ K p. (m1 : Bytes) (k1 : Forest) (m2 : Bytes) (k2 : Forest)
     → Node src1 tape1 p1 1 m1 → Tape src1 tape1 (p1 + 1) (next_at tape1 p1) k1 → Node src2 tape2 p2 1 m2 → Tape src2 tape2 (p2 + 1) (next_at tape2 p2) k2
-    → r ≡ rank (labels.cmp (label K p m1 k1) (label K p m2 k2)))
+    → ordering_index r ≡ rank (labels.cmp (label K p m1 k1) (label K p m2 k2)))
 
 -- the same where the first element is at the place `own`
-abbrev pub LabelsComparedAt : Bytes → List ℕ → ℕ → ℕ → List ℕ → List ℕ → ℕ → List ℕ → List ℕ → ℕ → ℕ → Type 0
+abbrev pub LabelsComparedAt : Bytes → List ℕ → ℕ → ℕ → List ℕ → List ℕ → ℕ → List ℕ → List ℕ → ℕ → Ordering → Type 0
 LabelsComparedAt text table n own src1 tape1 p1 src2 tape2 p2 r =
     (K : KeyList) (p : Path) (m1 : Bytes) (k1 : Forest) (m2 : Bytes) (k2 : Forest) → Table text table n K → place_of K (p ▸ m1) ≡ own
     → Node src1 tape1 p1 1 m1 → Tape src1 tape1 (p1 + 1) (next_at tape1 p1) k1 → Node src2 tape2 p2 1 m2 → Tape src2 tape2 (p2 + 1) (next_at tape2 p2) k2
-    → r ≡ rank (labels.cmp (label K p m1 k1) (label K p m2 k2))
+    → ordering_index r ≡ rank (labels.cmp (label K p m1 k1) (label K p m2 k2))

@@ -1,4 +1,5 @@
 pub mod Result
+pub mod Meant
 pub mod KeyList
 pub mod Version
 pub mod VersionRead
@@ -31,6 +32,7 @@ pub mod Notation
 pub mod SpellLaws
 pub mod NotationLaws
 pub mod Rows
+pub mod Runs
 pub mod LineScans
 pub mod LineRead
 pub mod Contexts

@@ -1,14 +1,11 @@
 -- What the scanner of a line answers: all that is in the notation is found, and what is found is in it.
-use Rattle.std.specs.Prelude.{ℕ, ◌+◌, ◌≤◌, ◌≡◌, Bool, true, false, List, [], ◌∷◌, ◌++◌, eqb, length, drop}
+use Rattle.std.specs.Prelude.{None, Option, Some, ℕ, ◌+◌, ◌≤◌, ◌≡◌, Bool, true, false, List, [], ◌∷◌, ◌++◌, eqb, length, drop}
 use Rattle.std.proofs.Common.{subst}
 use Rattle.xml.specs.Bytes.{Bytes, bytes, all, join_by, is_name}
 use Rattle.keys.specs.Result.{refused, r3, ok, ◌>>=◌}
 use Rattle.keys.specs.KeyList.{Path, Key, KeyList, write_context, is_root_context, contexts_in_notation, key_list}
 use Rattle.keys.specs.Notation.{Noted, AllNoted, spell, write_lines, keys_read}
-use Rattle.keys.specs.declared.notation.End.{End}
-use Rattle.keys.specs.declared.notation.End.TheVariants.{At}
 use Rattle.keys.specs.declared.notation.Line.{Line}
-use Rattle.keys.specs.declared.notation.Line.TheVariants.{Parts, Wrong}
 
 -- a context that ends at e: only the first line's is `/`
 pub record ContextIs (text : Bytes) (at e : ℕ) : Type 0 where
@@ -19,9 +16,9 @@ pub record ContextIs (text : Bytes) (at e : ℕ) : Type 0 where
   pub ends : e ≡ at + 1 + length (write_context path)
   pub within : e ≤ length text
 
-pub record ContextRead (text : Bytes) (at : ℕ) (r : End) : Type 0 where
-  pub found : (p : Path) (s : Bytes) → all is_name p ≡ true → is_root_context p ≡ eqb at 0 → drop at text ≡ 40 ∷ (write_context p ++ 44 ∷ s) → r ≡ At (at + 1 + length (write_context p))
-  pub real : (e : ℕ) → r ≡ At e → ContextIs text at e
+pub record ContextRead (text : Bytes) (at : ℕ) (r : Option ℕ) : Type 0 where
+  pub found : (p : Path) (s : Bytes) → all is_name p ≡ true → is_root_context p ≡ eqb at 0 → drop at text ≡ 40 ∷ (write_context p ++ 44 ∷ s) → r ≡ Some (at + 1 + length (write_context p))
+  pub real : (e : ℕ) → r ≡ Some e → ContextIs text at e
 
 -- key names that stand two bytes after a place and end at e
 pub record KeysAre (text : Bytes) (from e : ℕ) : Type 0 where
@@ -32,10 +29,10 @@ pub record KeysAre (text : Bytes) (from e : ℕ) : Type 0 where
   pub ends : e ≡ from + 2 + length (join_by (bytes ", ") names)
   pub within : e ≤ length text
 
-pub record KeysRead (text : Bytes) (from : ℕ) (r : End) : Type 0 where
+pub record KeysRead (text : Bytes) (from : ℕ) (r : Option ℕ) : Type 0 where
   pub found : (ks : List Bytes) (s : Bytes) → all is_name ks ≡ true → length ks ≤ 4 → drop (from + 2) text ≡ join_by (bytes ", ") ks ++ 125 ∷ s
-      → r ≡ At (from + 2 + length (join_by (bytes ", ") ks))
-  pub real : (e : ℕ) → r ≡ At e → KeysAre text from e
+      → r ≡ Some (from + 2 + length (join_by (bytes ", ") ks))
+  pub real : (e : ℕ) → r ≡ Some e → KeysAre text from e
 
 -- the line at a place as far as the `, {` after its name
 pub record NameIs (text : Bytes) (at context name : ℕ) : Type 0 where
@@ -67,9 +64,9 @@ pub record LineIs (text : Bytes) (at context name names : ℕ) : Type 0 where
 abbrev pub NoLine : Bytes → ℕ → Type 0
 NoLine text at = (k : Key) (s : Bytes) → Noted k → is_root_context k.context ≡ eqb at 0 → drop at text ≡ spell k (10 ∷ s) → ⊥
 
-abbrev pub LineRead : Bytes → ℕ → Line → Type 0
-LineRead text at (Parts c n m) = LineIs text at c n m
-LineRead text at Wrong = NoLine text at
+abbrev pub LineRead : Bytes → ℕ → Option Line → Type 0
+LineRead text at (Some l) = LineIs text at l.context l.name l.names
+LineRead text at None = NoLine text at
 
 -- the lines up to `at` are keys, and what is read from the whole text is what the rest adds to them
 pub record Upto (text : Bytes) (at : ℕ) : Type 0 where
@@ -92,8 +89,8 @@ abbrev pub NotationRead : Bytes → Bool → Type 0
 NotationRead text true = InNotation text
 NotationRead text false = key_list text ≡ refused r3
 
-pub read-line : {text : Bytes} {at c n m : ℕ} {r : Line} → r ≡ Parts c n m → LineRead text at r → LineIs text at c n m
-read-line {text} {at} e l = subst (λ (z : Line). LineRead text at z) e l
+pub read-line : {text : Bytes} {at : ℕ} {l : Line} {r : Option Line} → r ≡ Some l → LineRead text at r → LineIs text at l.context l.name l.names
+read-line {text} {at} e l = subst (λ (z : Option Line). LineRead text at z) e l
 
 -- and so the answer for a whole text
 pub read-notation : {text : Bytes} {r : Bool} → r ≡ true → NotationRead text r → InNotation text
@@ -102,5 +99,5 @@ read-notation {text} e n = subst (λ (z : Bool). NotationRead text z) e n
 pub read-refused : (text : Bytes) {r : Bool} → r ≡ false → NotationRead text r → key_list text ≡ refused r3
 read-refused text e n = subst (λ (z : Bool). NotationRead text z) e n
 
-pub read_none : (text : Bytes) (at : ℕ) {r : Line} → r ≡ Wrong → LineRead text at r → NoLine text at
-read_none text at e l = subst (λ (z : Line). LineRead text at z) e l
+pub read_none : (text : Bytes) (at : ℕ) {r : Option Line} → r ≡ None → LineRead text at r → NoLine text at
+read_none text at e l = subst (λ (z : Option Line). LineRead text at z) e l

@@ -1,9 +1,7 @@
 -- The scanners of a line, as machines: how long a path is that stands at the start of a text, and where key names end.
-use Rattle.std.specs.Prelude.{ℕ, zero, suc, ◌+◌, ◌≤◌, ◌≡◌, true, false, not, ◌&&◌, [], ◌∷◌, eqb, length, drop}
+use Rattle.std.specs.Prelude.{None, Option, Some, ℕ, zero, suc, ◌+◌, ◌≤◌, ◌≡◌, true, false, not, ◌&&◌, [], ◌∷◌, eqb, length, drop}
 use Rattle.xml.specs.Bytes.{Bytes, bytes}
 use Rattle.xml.specs.Read.{common, name_len}
-use Rattle.keys.specs.declared.notation.End.{End}
-use Rattle.keys.specs.declared.notation.End.TheVariants.{At, Nowhere}
 
 -- the bytes of `/name/name..` at the start, the first k skipped
 unfoldable pub path_run : ℕ → Bytes → ℕ
@@ -17,14 +15,14 @@ pub record Begun (text : Bytes) (at from : ℕ) : Type 0 where
   pub run : at + 1 + path_run 0 (drop (at + 1) text) ≡ from + path_run 0 (drop from text)
 
 -- the end of one to r names with `, ` between two, the first of them two bytes after i
-unfoldable pub names_end : Bytes → ℕ → ℕ → End
-names_end text zero i = Nowhere
+unfoldable pub names_end : Bytes → ℕ → ℕ → Option ℕ
+names_end text zero i = None
 names_end text (suc r) i =
     elim (eqb (name_len (drop (i + 2) text)) 0) [
-      | true ↦ Nowhere
+      | true ↦ None
       | false ↦
           elim (eqb (common (bytes ", ") (drop (i + 2 + name_len (drop (i + 2) text)) text)) 2) [
             | true ↦ names_end text r (i + 2 + name_len (drop (i + 2) text))
-            | false ↦ At (i + 2 + name_len (drop (i + 2) text))
+            | false ↦ Some (i + 2 + name_len (drop (i + 2) text))
           ]
     ]

@@ -1,8 +1,9 @@
 -- What the functions that load a key list ask and answer.
-use Rattle.std.specs.Prelude.{ℕ, ◌+◌, ◌*◌, ◌<◌, ◌≤◌, ◌≡◌, Bool, true, false, not, ◌&&◌, ◌||◌, List, [], ◌∷◌, ltb, leb, length, get_or, take}
+use Rattle.std.specs.Prelude.{None, Option, Some, Result, Ok, Err, ℕ, ◌+◌, ◌*◌, ◌<◌, ◌≤◌, ◌≡◌, Bool, true, false, not, ◌&&◌, ◌||◌, List, [], ◌∷◌, ltb, leb, length, get_or, take}
 use Rattle.std.proofs.Math.Seq.{slice}
 use Rattle.xml.specs.Bytes.{Bytes, any, same}
-use Rattle.keys.specs.Result.{refused, r3, r4}
+use Rattle.keys.specs.Result.{refused, r4}
+use Rattle.keys.specs.Meant.{row_of}
 use Rattle.keys.specs.KeyList.{KeyList, key_list}
 use Rattle.keys.specs.Table.{Table, parent_in, keys_in}
 use Rattle.keys.specs.Rows.{Row}
@@ -11,10 +12,7 @@ use Rattle.keys.specs.Contexts.{ContextOf, LastIs}
 use Rattle.keys.specs.Added.{KeyCell, Added}
 use Rattle.keys.specs.declared.contexts.Context.{Context}
 use Rattle.keys.specs.declared.contexts.Last.{Last}
-use Rattle.keys.specs.declared.notation.End.{End}
-use Rattle.keys.specs.declared.notation.End.TheVariants.{At, Nowhere}
-use Rattle.keys.specs.declared.load.Loaded.{Loaded}
-use Rattle.keys.specs.declared.load.Loaded.TheVariants.{Table as Loads, Notation as NotNoted, Rules as NotKept}
+use Rattle.keys.specs.declared.refusal.Refusal.{Refusal}
 
 -- the cells are some key list's table
 pub record Tabled (text : Bytes) (cells : List ℕ) (n : ℕ) : Type 0 where
@@ -87,17 +85,11 @@ pub record Adding (text : Bytes) (cells : List ℕ) (at n lines : ℕ) (here : C
   pub line : LineIs text at context name names
   pub here-is : ContextOf text at cells n (at + 1) context here
 
-abbrev pub AddRead : Bytes → List ℕ → ℕ → ℕ → Last → End → Type 0
-AddRead text cells lines names last (At m) = Building text cells (names + 4) m (lines + 1) last
-AddRead text cells lines names last Nowhere = Breaks text
+abbrev pub AddRead : Bytes → List ℕ → ℕ → ℕ → Last → Option ℕ → Type 0
+AddRead text cells lines names last (Some m) = Building text cells (names + 4) m (lines + 1) last
+AddRead text cells lines names last None = Breaks text
 
--- the answer for a text that is refused
-abbrev pub Refuses : Bytes → Loaded → Type 0
-Refuses text (Loads n) = ⊥
-Refuses text NotNoted = key_list text ≡ refused r3
-Refuses text NotKept = key_list text ≡ refused r4
-
-abbrev pub LoadRead : Bytes → List ℕ → Loaded → Type 0
-LoadRead text cells (Loads n) = (K : KeyList) × Table text cells n K
-LoadRead text cells NotNoted = key_list text ≡ refused r3
-LoadRead text cells NotKept = key_list text ≡ refused r4
+-- what loading a key list answers
+abbrev pub LoadRead : Bytes → List ℕ → Result ℕ Refusal → Type 0
+LoadRead text cells (Ok n) = (K : KeyList) × Table text cells n K
+LoadRead text cells (Err w) = key_list text ≡ refused (row_of w)

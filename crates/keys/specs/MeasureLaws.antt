@@ -5,7 +5,6 @@ use Rattle.std.proofs.Math.Path.{refl}
 use Rattle.std.proofs.Common.{ap, sym, ◌∙◌}
 use native.Mathlib.Omega.{arith}
 use borrow.Author.Tests.{ltb-false, lt-ltb, le-ltb}
-use Rattle.std.proofs.Math.Seq.{slice, length-slice}
 use Rattle.xml.specs.Bytes.{Bytes, bytes, all, same, is_white}
 use Rattle.xml.specs.Truth.{bool_by}
 use Rattle.xml.specs.Forest.{Forest, end, elem, text, stamp, join, escape}
@@ -121,9 +120,9 @@ module _ (s : Sizes) (n b : ℕ) where
   unfolding plus
   plus-fits g h = rw (le-ltb 512 (s.nodes + n) g, le-ltb 16384 (s.bytes + b) h)
 
-pub plus-tags : (s : Sizes) (src : Bytes) (a e : ℕ) (x : Bool) → e ≤ length src → same (slice a e src) (bytes "T") ≡ x → plus_tags s (slice a e src) ≡ plus s (counted x) (2 * (e - a) + 5)
+pub plus-tags : (s : Sizes) (n : Bytes) (x : Bool) → same n (bytes "T") ≡ x → plus_tags s n ≡ plus s (counted x) (2 * length n + 5)
 unfolding plus_tags
-plus-tags s src a e x h g = rw (g, length-slice a e src h)
+plus-tags s n x g = rw g
 
 module _ (K : KeyList) (p : Path) (s : Sizes) (b : Bytes) where
   pub text-dropped : (above K p && all is_white b) ≡ true → plus_text K p s b ≡ s

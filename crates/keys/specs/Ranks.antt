@@ -1,15 +1,18 @@
--- The outcome of a comparison as a number, and the comparison of two parts of texts byte by byte.
-use Rattle.std.specs.Prelude.{ℕ, suc, ◌+◌, ◌<◌, ◌≤◌, ◌≡◌, Bool, true, false, List, length, get_or}
-use Rattle.std.proofs.Math.Numerals.{add-one}
+-- The outcome of a comparison as a number, and the comparison of two texts byte by byte.
+use Rattle.std.specs.Prelude.{ℕ, ◌≡◌, Bool, true, false, cond, [], ◌∷◌, eqb, ltb}
+use Rattle.std.specs.declared.cmp.Ordering.{Ordering as Answer}
+use Rattle.std.specs.declared.cmp.Ordering.TheVariants.{Less, Equal, Greater}
+use Rattle.std.specs.Ordering.{ordering_index, ordering_then, nat_cmp, is_lt, is_ne}
+use Rattle.std.specs.Cmp.Lexicographic.{slice_cmp}
 use Rattle.std.proofs.Common.{arith, sym, ◌∙◌, ap}
 use Rattle.std.proofs.Math.Path.{refl}
+use mathlib.Core.Bool.{true≢false}
 use mathlib.Core.Ordering.{Ordering, lt, eq, gt}
-use Rattle.std.proofs.Math.Seq.{slice, slice_empty, slice-cons}
 use Rattle.xml.specs.Bytes.{Bytes, same}
 use Rattle.xml.specs.BytesLaws.{same-is, same_self}
 use Rattle.xml.specs.Truth.{clash, not_so}
 use Rattle.model.specs.Keyed.{self}
-use Rattle.model.specs.Orders.{next, cmp_l, numbers, lists, is_eq, of-is_eq, is-lt, is-eq, is_gt}
+use Rattle.model.specs.Orders.{next, side, cmp_l, numbers, lists, is_eq, of-is_eq}
 
 -- 0 before, 1 the same, 2 after
 abbrev pub rank : Ordering → ℕ
@@ -43,34 +46,45 @@ same-compare a b = go (same a b) refl
     go true h = rw (← same-is a b h) (sym (ap is_eq (self (lists numbers) a)))
     go false h = sym (not_so (is_eq (compare_bytes a b)) (λ e. clash (sym (ap (same a) (sym ((lists numbers).same (of-is_eq (compare_bytes a b) e))) ∙ same_self a) ∙ h)))
 
--- ---- the parts s[i..e] and t[j..d]
-module _ (s t : List ℕ) (i e j d : ℕ) where
-  abbrev Outcome : Ordering
-  Outcome = compare_bytes (slice i e s) (slice j d t)
+-- ---- the program's ordering, and what its tests tell
+pub first-is : (o : Answer) → is_lt o ≡ eqb (ordering_index o) 0
+first-is Less = refl
+first-is Equal = refl
+first-is Greater = refl
 
-  -- one of them, or both, are at their end
-  pub compare-none : i ≡ e → j ≡ d → Outcome ≡ eq
-  unfolding cmp_l
-  compare-none p q = rw (p, q, slice_empty, slice_empty) refl
+pub is-same : (o : Answer) → is_ne o ≡ false → ordering_index o ≡ 1
+is-same Less e = absurd (true≢false e)
+is-same Equal e = refl
+is-same Greater e = absurd (true≢false e)
 
-  pub compare-short : i ≡ e → j < d → d ≤ length t → Outcome ≡ lt
-  unfolding cmp_l
-  compare-short p h k = rw (p, slice_empty, slice-cons j d t 0 h k) refl
+pub not-same : (o : Answer) → is_ne o ≡ true → ordering_index o ≡ 1 → ⊥
+not-same Less e f = absurd (omega arith)
+not-same Equal e f = absurd (true≢false (sym e))
+not-same Greater e f = absurd (omega arith)
 
-  pub compare-long : i < e → e ≤ length s → j ≡ d → Outcome ≡ gt
-  unfolding cmp_l
-  compare-long h k p = rw (p, slice_empty, slice-cons i e s 0 h k) refl
+-- the library's order of bytes is that of the definitions
+index-then : (a b : Answer) (o p : Ordering) → ordering_index a ≡ rank o → ordering_index b ≡ rank p → ordering_index (ordering_then a b) ≡ rank (next o p)
+index-then Less b lt p e f = refl
+index-then Less b eq p e f = absurd (omega arith)
+index-then Less b gt p e f = absurd (omega arith)
+index-then Equal b lt p e f = absurd (omega arith)
+index-then Equal b eq p e f = f
+index-then Equal b gt p e f = absurd (omega arith)
+index-then Greater b lt p e f = absurd (omega arith)
+index-then Greater b eq p e f = absurd (omega arith)
+index-then Greater b gt p e f = refl
 
-  -- the next bytes
-  module _ (h : i < e) (k : e ≤ length s) (h' : j < d) (k' : d ≤ length t) where
-    pub compare-less : get_or s i 0 < get_or t j 0 → Outcome ≡ lt
-    unfolding cmp_l
-    compare-less l = rw (slice-cons i e s 0 h k, slice-cons j d t 0 h' k') (ap (λ o. next o (compare_bytes (slice (suc i) e s) (slice (suc j) d t))) (is-lt l))
+byte-is : (a b : ℕ) → ordering_index (nat_cmp a b) ≡ rank (numbers.cmp a b)
+byte-is a b = go (ltb a b) (eqb a b)
+  where
+    go : (c d : Bool) → ordering_index (cond c Less (cond d Equal Greater)) ≡ rank (side c d)
+    go true d = refl
+    go false true = refl
+    go false false = refl
 
-    pub compare-more : get_or t j 0 < get_or s i 0 → Outcome ≡ gt
-    unfolding cmp_l
-    compare-more l = rw (slice-cons i e s 0 h k, slice-cons j d t 0 h' k') (ap (λ o. next o (compare_bytes (slice (suc i) e s) (slice (suc j) d t))) (is_gt l))
-
-    pub compare-on : get_or s i 0 ≡ get_or t j 0 → Outcome ≡ compare_bytes (slice (i + 1) e s) (slice (j + 1) d t)
-    unfolding cmp_l
-    compare-on p = rw (add-one, add-one, slice-cons i e s 0 h k, slice-cons j d t 0 h' k', p) (ap (λ o. next o (compare_bytes (slice (suc i) e s) (slice (suc j) d t))) (is-eq (get_or t j 0)))
+pub bytes-compare : (s t : Bytes) → ordering_index (slice_cmp nat_cmp s t) ≡ rank (compare_bytes s t)
+unfolding cmp_l
+bytes-compare [] [] = refl
+bytes-compare [] (y ∷ t) = refl
+bytes-compare (x ∷ s) [] = refl
+bytes-compare (x ∷ s) (y ∷ t) = index-then (nat_cmp x y) (slice_cmp nat_cmp s t) (numbers.cmp x y) (compare_bytes s t) (byte-is x y) (bytes-compare s t)

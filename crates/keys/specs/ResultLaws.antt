@@ -1,5 +1,5 @@
--- What a result of a `do` block says of its steps.
-use Rattle.std.specs.Prelude.{ℕ, ◌≡◌, refl, Bool, true, false}
+-- What a result of a `do` block says of its steps; and an option of its value.
+use Rattle.std.specs.Prelude.{Some, None, ℕ, ◌≡◌, refl, Bool, true, false}
 use Rattle.std.proofs.Common.{arith, sym}
 use Rattle.keys.specs.Result.{Refusal, Result, refused, ok, ◌>>=◌, ◌>>◌, refuse, refused_as}
 
@@ -8,6 +8,12 @@ refused-ok e = let z : ◌≡◌ {A = ℕ} 0 1 = cc in absurd (omega arith)
 
 pub ok-inj : {A : Type 0} {a b : A} → ok a ≡ ok b → a ≡ b
 ok-inj e = cc
+
+pub none-not : {A B : Type 0} {a : A} → None ≡ Some a → B
+none-not e = let z : ◌≡◌ {A = ℕ} 0 1 = cc in absurd (omega arith)
+
+pub some-is : {A : Type 0} {a b : A} → Some a ≡ Some b → a ≡ b
+some-is e = cc
 
 pub bind_inv : {A B : Type 0} (r : Result A) (f : A → Result B) (b : B) → (r >>= f) ≡ ok b → (a : A) × (r ≡ ok a) × (f a ≡ ok b)
 bind_inv (ok a) f b e = (a, refl, e)

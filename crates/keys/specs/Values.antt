@@ -1,9 +1,8 @@
 -- Key values in a run of text: they have no entity, so the run's raw bytes decide.
-use Rattle.std.specs.Prelude.{ℕ, ◌+◌, ◌-◌, ◌<◌, ◌≤◌, ◌≡◌, refl, true, false, ◌&&◌, [], ◌∷◌, eqb, leb, length, get_or}
+use Rattle.std.specs.Prelude.{ℕ, ◌<◌, ◌≤◌, ◌≡◌, refl, true, false, ◌&&◌, [], ◌∷◌, eqb, leb, length, Result, Ok, Err}
 use Prim.Native.Char.{code}
-use Rattle.std.proofs.Common.{ap, sym, ◌∙◌, add-one, arith}
+use Rattle.std.proofs.Common.{ap, sym, ◌∙◌, arith}
 use Rattle.std.proofs.Math.Bool.{and-false}
-use Rattle.std.proofs.Math.Seq.{slice, slice-cons, slice_empty, length-slice}
 use borrow.Author.Tests.{le-leb, lt-leb, eqb-true, eqb-false}
 use Rattle.xml.specs.Bytes.{Bytes, bytes, all, is_name_byte, is_value, bytes_compute}
 use Rattle.xml.specs.GrammarLaws.{unescape-plain, unescape-joined, unescape-turned}
@@ -11,56 +10,39 @@ use Rattle.xml.proofs.Lines.{name-feed}
 use Rattle.xml.specs.NeatWritten.{name-return}
 use Rattle.xml.specs.Read.{common, further, try, entity_at, unescape}
 use Rattle.xml.specs.Truth.{clash, bool_by, by-test, and_left, and_right}
-use Rattle.xml.specs.declared.Found.{Found}
-use Rattle.xml.specs.declared.Found.TheVariants.{Hit, Miss}
 
--- ---- the bytes one by one
-module _ (src : Bytes) (i e : ℕ) (k : e ≤ length src) where
-  names-first : i < e → all is_name_byte (slice i e src) ≡ (is_name_byte (get_or src i 0) && all is_name_byte (slice (i + 1) e src))
-  unfolding all
-  names-first h = rw (slice-cons i e src 0 h k, add-one)
+-- ---- what is a value
+pub value_empty : (s : Bytes) → length s < 1 → is_value s ≡ false
+unfolding is_value
+value_empty s h = rw (lt-leb 1 (length s) h)
 
-  pub names-stop : i < e → is_name_byte (get_or src i 0) ≡ false → all is_name_byte (slice i e src) ≡ false
-  names-stop h f = names-first h ∙ rw f
+pub value_over : (s : Bytes) → 32 < length s → is_value s ≡ false
+unfolding is_value
+value_over s h = rw (le-leb 1 (length s) (omega arith), lt-leb (length s) 32 h)
 
-  pub names_more : i < e → is_name_byte (get_or src i 0) ≡ true → all is_name_byte (slice i e src) ≡ all is_name_byte (slice (i + 1) e src)
-  names_more h f = names-first h ∙ rw f
-
-  pub names-done : i ≡ e → all is_name_byte (slice i e src) ≡ true
-  unfolding all
-  names-done h = rw (h, slice_empty e src)
-
-  pub value-short : e - i < 1 → is_value (slice i e src) ≡ false
-  unfolding is_value
-  value-short h = rw (length-slice i e src k, lt-leb 1 (e - i) h)
-
-  pub value-long : 32 < e - i → is_value (slice i e src) ≡ false
-  unfolding is_value
-  value-long h = rw (length-slice i e src k, le-leb 1 (e - i) (omega arith), lt-leb (e - i) 32 h)
-
-  pub value-names : 1 ≤ e - i → e - i ≤ 32 → is_value (slice i e src) ≡ all is_name_byte (slice i e src)
-  unfolding is_value
-  value-names h g = rw (length-slice i e src k, le-leb 1 (e - i) h, le-leb (e - i) 32 g)
+pub value_names : (s : Bytes) → 1 ≤ length s → length s ≤ 32 → is_value s ≡ all is_name_byte s
+unfolding is_value
+value_names s h g = rw (le-leb 1 (length s) h, le-leb (length s) 32 g)
 
 -- ---- no entity means a byte of a name
-abbrev NoName : Found → Type 0
-NoName (Hit n c) = is_name_byte c ≡ false
-NoName (Miss n) = Unit {0}
+abbrev NoName : Result (ℕ × ℕ) ℕ → Type 0
+NoName (Ok (n, c)) = is_name_byte c ≡ false
+NoName (Err n) = Unit {0}
 
-no-further : (k : ℕ) (o : Found) → NoName o → NoName (further k o)
+no-further : (k : ℕ) (o : Result (ℕ × ℕ) ℕ) → NoName o → NoName (further k o)
 unfolding further
-no-further k (Hit n c) h = h
-no-further k (Miss n) h = tt
+no-further k (Ok (n, c)) h = h
+no-further k (Err n) h = tt
 
-no-try : (w : Bytes) (b : ℕ) (s : Bytes) (o : Found) → is_name_byte b ≡ false → NoName o → NoName (try w b s o)
+no-try : (w : Bytes) (b : ℕ) (s : Bytes) (o : Result (ℕ × ℕ) ℕ) → is_name_byte b ≡ false → NoName o → NoName (try w b s o)
 unfolding try
-no-try w b s o h g = bool_by (λ x. NoName (elim x as (λ _. Found) [ true ↦ Hit (length w) b | false ↦ further (common w s) o ])) (eqb (common w s) (length w)) (λ _. h) (λ _. no-further (common w s) o g)
+no-try w b s o h g = bool_by (λ x. NoName (elim x as (λ _. Result (ℕ × ℕ) ℕ) [ true ↦ Ok (length w, b) | false ↦ further (common w s) o ])) (eqb (common w s) (length w)) (λ _. h) (λ _. no-further (common w s) o g)
 
 no-entity : (s : Bytes) → NoName (entity_at s)
 unfolding entity_at bytes_compute
 no-entity s =
     no-try (bytes "lt;") (code "<") s _ refl (no-try (bytes "gt;") (code ">") s _ refl (no-try (bytes "amp;") (code "&") s _ refl
-    (no-try (bytes "quot;") (code "\"") s _ refl (no-try (bytes "apos;") (code "'") s (Miss 0) refl tt))))
+    (no-try (bytes "quot;") (code "\"") s _ refl (no-try (bytes "apos;") (code "'") s (Err 0) refl tt))))
 
 no-amp : is_name_byte (code "&") ≡ false
 unfolding bytes_compute
@@ -88,9 +70,9 @@ reads b s = by-test (eqb b (code "&")) amp (λ e. by-test (eqb b (code "\r")) (�
     amp : eqb b (code "&") ≡ true → Reads b s
     amp e = entity (entity_at s) refl (no-entity s)
       where
-        entity : (o : Found) → entity_at s ≡ o → NoName o → Reads b s
-        entity (Hit n c) h g = neither {c = c} {t = unescape n s} (ap is_name_byte (eqb-true b (code "&") e) ∙ no-amp) g (rw (e, h, unescape))
-        entity (Miss n) h g = itself (rw (e, h, unescape))
+        entity : (o : Result (ℕ × ℕ) ℕ) → entity_at s ≡ o → NoName o → Reads b s
+        entity (Ok (n, c)) h g = neither {c = c} {t = unescape n s} (ap is_name_byte (eqb-true b (code "&") e) ∙ no-amp) g (rw (e, h, unescape))
+        entity (Err n) h g = itself (rw (e, h, unescape))
 
 -- a run of name bytes means itself, and any other has another byte
 names-raw : (s : Bytes) → all is_name_byte (unescape 0 s) ≡ all is_name_byte s

@@ -4,7 +4,8 @@ ghost use Rattle.std.proofs.Math.Seq.{slice};
 ghost use Rattle.keys.specs.KeyList.{KeyList};
 ghost use Rattle.keys.specs.Contexts.{ContextOf, last_of, PartsIn, LastIs, stands_whole, KnownIs, Contexting};
 
-use crate::places::child;
+use crate::notation::Line;
+use crate::places::KeyTable;
 use xml::compare::same_long;
 use xml::scan::{byte_at, name_len};
 
@@ -15,36 +16,41 @@ pub struct Context {
     pub depth: usize,
 }
 
-// The beginning of a context: where it ends, the place of its path, and how many names it has.
+impl Context {
+    // The root's context: no names, above the root.
+    pub const ROOT: Context = Context {
+        place: 128,
+        depth: 0,
+    };
+}
+
+// The beginning of a context: where it ends, and the context that it is so far.
 #[derive(Clone, Copy)]
 pub struct Known {
     pub end: usize,
-    pub place: usize,
-    pub depth: usize,
+    pub context: Context,
 }
 
-// What is kept of a line: where its context starts and ends and its name ends, its context's place and number of names, and the place of its own path.
+// What is kept of a line: where its context starts and ends and its name ends, its context, and the place of its own path.
 #[derive(Clone, Copy)]
 pub struct Last {
     pub start: usize,
     pub end: usize,
     pub name: usize,
-    pub place: usize,
-    pub depth: usize,
+    pub context: Context,
     pub own: usize,
 }
 
-// What is kept of the line at a place, with this context and with the number n.
-pub fn kept(at: usize, context: usize, name: usize, n: usize, here: Context) -> Last
+// What is kept of the line at a place, whose context has this place and whose path has the number n.
+pub fn kept(at: usize, line: Line, n: usize, here: Context) -> Last
     requires { at < 4096 }
-    ensures { result ≡ last_of at context name n here }
+    ensures { result ≡ last_of at line.context line.name n here }
 {
     Last {
         start: at + 1,
-        end: context,
-        name,
-        place: here.place,
-        depth: here.depth,
+        end: line.context,
+        name: line.name,
+        context: here,
         own: n,
     }
 }
@@ -57,34 +63,29 @@ fn stand_whole(text: &[u8], at: usize, a: usize, e: usize) -> bool
     if text.len() - at <= e - a {
         return false;
     }
-    if !same_long(text, at, at + (e - a), text, a, e) {
+    if !same_long(&text[at..at + (e - a)], &text[a..e]) {
         return false;
     }
     let next = text[at + (e - a)];
-    if next == b',' {
-        return true;
-    }
-    next == b'/'
+    next == b',' || next == b'/'
 }
 
 // What is known of the context of the line at a place from the last line: it begins with that one's path, or with its context.
 pub fn known_context(text: &[u8], at: usize, last: Last) -> Known
-    requires { PartsIn text.now last × (last.depth ≤ 8) × (at < length text.now) }
+    requires { PartsIn text.now last × (last.context.depth ≤ 8) × (at < length text.now) }
     ensures { (K : KeyList) → LastIs text.now K last → KnownIs text.now at K result }
 {
     let from = at + 1;
     if !stand_whole(text, from, last.start, last.end) {
         return Known {
             end: from,
-            place: 128,
-            depth: 0,
+            context: Context::ROOT,
         };
     }
     let end = from + (last.end - last.start);
     let shared = Known {
         end,
-        place: last.place,
-        depth: last.depth,
+        context: last.context,
     };
     if byte_at(text, end) != b'/' {
         return shared;
@@ -94,8 +95,10 @@ pub fn known_context(text: &[u8], at: usize, last: Last) -> Known
     }
     Known {
         end: end + 1 + (last.name - (last.end + 3)),
-        place: last.own,
-        depth: last.depth + 1,
+        context: Context {
+            place: last.own,
+            depth: last.context.depth + 1,
+        },
     }
 }
 
@@ -111,12 +114,18 @@ pub fn context_place(
     requires { Contexting text.now table.now at n known end }
     ensures { ContextOf text.now at table.now n (at + 1) end result }
 {
-    let mut place = known.place;
-    let mut depth = known.depth;
+    let before = KeyTable {
+        text: &text[..at],
+        table,
+        paths: n,
+    };
+    let mut place = known.context.place;
+    let mut depth = known.context.depth;
     let mut i = known.end;
+    // `while` and no `for`: each turn goes on by the length of what it reads.
     while i + 1 < end {
         let m = name_len(text, i + 1);
-        place = child(&text[..at], table, n, place, text, i + 1, i + 1 + m);
+        place = before.child(place, &text[i + 1..i + 1 + m]);
         depth += 1;
         i += 1 + m;
     }

@@ -1,5 +1,6 @@
 // Labels: an element's name and its key values, compared with those of another, which may be of another text.
 ghost use Rattle.std.specs.Prelude.{◌≡◌, ◌+◌, ◌≤◌, length};
+ghost use Rattle.std.specs.Ordering.{ordering_index};
 ghost use Rattle.std.proofs.Math.Seq.{slice};
 ghost use Rattle.xml.specs.Forest.{Forest};
 ghost use Rattle.xml.specs.Tape.{Tape, Valid};
@@ -8,57 +9,29 @@ ghost use Rattle.keys.specs.Ranks.{rank, compare_bytes};
 ghost use Rattle.keys.specs.FindKey.{KeyAt};
 ghost use Rattle.keys.specs.Labelled.{KeyedAt, Labelled, Beside, KeysCompared, LabelsCompared, LabelsComparedAt};
 
-use crate::places::{child, key_count, key_name};
+use crate::places::KeyTable;
+use std::cmp::Ordering;
 use xml::compare::same_bytes;
-use xml::tape::view_at;
+use xml::tape::Document;
 
-// Compares s[a..e] with t[b..d] as byte strings, a prefix first: 0 before, 1 the same, 2 after.
-pub fn compare_bytes(s: &[u8], a: usize, e: usize, t: &[u8], b: usize, d: usize) -> u8
-    requires { (a ≤ e) × (e ≤ length s.now) × (b ≤ d) × (d ≤ length t.now) }
-    ensures { result ≡ rank (compare_bytes (slice a e s.now) (slice b d t.now)) }
+// Compares s with t as byte strings, a prefix first.
+pub fn compare_bytes(s: &[u8], t: &[u8]) -> Ordering
+    ensures { ordering_index result ≡ rank (compare_bytes s.now t.now) }
 {
-    let mut i = a;
-    let mut j = b;
-    while i < e {
-        if d <= j {
-            return 2;
-        }
-        let x = s[i];
-        let y = t[j];
-        if x < y {
-            return 0;
-        }
-        if y < x {
-            return 2;
-        }
-        i += 1;
-        j += 1;
-    }
-    if j < d {
-        return 0;
-    }
-    1
+    s.cmp(t)
 }
 
-// The first of the nodes lo to hi that is an element named text[a..e], or hi.
-pub fn find_key(
-    text: &[u8],
-    a: usize,
-    e: usize,
-    src: &[u8],
-    tape: &[u32],
-    lo: usize,
-    hi: usize,
-) -> usize
-    requires { (a ≤ e) × (e ≤ length text.now) × Valid src.now tape.now lo hi }
-    ensures { (f : Forest) → Tape src.now tape.now lo hi f
-        → KeyAt src.now tape.now (slice a e text.now) hi result (called (slice a e text.now) f) }
+// The first of the nodes lo to hi that is an element with the name, or hi. They are linked by `next`, so no range counts them.
+pub fn find_key(name: &[u8], doc: &Document, lo: usize, hi: usize) -> usize
+    requires { Valid doc.now.src.now doc.now.tape.now lo hi }
+    ensures { (f : Forest) → Tape doc.now.src.now doc.now.tape.now lo hi f
+        → KeyAt doc.now.src.now doc.now.tape.now name.now hi result (called name.now f) }
 {
     let mut p = lo;
     while p < hi {
-        let v = view_at(tape, p);
+        let v = doc.view(p);
         if v.kind == 1 {
-            if same_bytes(text, a, e, src, v.start, v.end) {
+            if same_bytes(name, doc.part(v)) {
                 return p;
             }
         }
@@ -68,113 +41,73 @@ pub fn find_key(
 }
 
 // Compares the key values of two elements at the place `own`: the nodes lo1 to hi1 of one tape, and lo2 to hi2 of another, are what they hold.
-fn compare_keys(
-    text: &[u8],
-    table: &[u32],
-    n: usize,
+fn compare_keys<'a>(
+    keys: &KeyTable,
     own: usize,
-    src1: &[u8],
-    tape1: &[u32],
+    first: &Document<'a>,
     lo1: usize,
     hi1: usize,
-    src2: &[u8],
-    tape2: &[u32],
+    second: &Document<'a>,
     lo2: usize,
     hi2: usize,
-) -> u8
-    requires { KeyedAt text.now table.now n own src1.now tape1.now lo1 hi1 × KeyedAt text.now table.now n own src2.now tape2.now lo2 hi2 }
-    ensures { KeysCompared text.now table.now n own src1.now tape1.now lo1 hi1 src2.now tape2.now lo2 hi2 result }
+) -> Ordering
+    requires { KeyedAt keys.now.text.now keys.now.table.now keys.now.paths own first.now.src.now first.now.tape.now lo1 hi1 × KeyedAt keys.now.text.now keys.now.table.now keys.now.paths own second.now.src.now second.now.tape.now lo2 hi2 }
+    ensures { KeysCompared keys.now.text.now keys.now.table.now keys.now.paths own first.now.src.now first.now.tape.now lo1 hi1 second.now.src.now second.now.tape.now lo2 hi2 result }
 {
-    let count = key_count(table, n, own);
-    let mut i = 0;
-    while i < count {
-        let key = key_name(table, own + 1 + i);
-        let x = find_key(text, key.start, key.end, src1, tape1, lo1, hi1);
-        let y = find_key(text, key.start, key.end, src2, tape2, lo2, hi2);
-        let v = view_at(tape1, x + 1);
-        let w = view_at(tape2, y + 1);
-        let order = compare_bytes(src1, v.start, v.end, src2, w.start, w.end);
-        if order != 1 {
+    let count = keys.key_count(own);
+    for i in 0..count {
+        let key = keys.part(keys.key_name(own + 1 + i));
+        let x = find_key(key, first, lo1, hi1);
+        let y = find_key(key, second, lo2, hi2);
+        let v = first.view(x + 1);
+        let w = second.view(y + 1);
+        let order = compare_bytes(first.part(v), second.part(w));
+        if order.is_ne() {
             return order;
         }
-        i += 1;
     }
-    1
+    Ordering::Equal
 }
 
-// Compares the labels of the elements p1 of one tape and p2 of another, both in an element at the place: 0 before, 1 the same, 2 after.
-pub fn compare_labels(
-    text: &[u8],
-    table: &[u32],
-    n: usize,
+// Compares the labels of the elements p1 of one tape and p2 of another, both in an element at the place.
+pub fn compare_labels<'a>(
+    keys: &KeyTable,
     place: usize,
-    src1: &[u8],
-    tape1: &[u32],
+    first: &Document<'a>,
     p1: usize,
-    src2: &[u8],
-    tape2: &[u32],
+    second: &Document<'a>,
     p2: usize,
-) -> u8
-    requires { Labelled text.now table.now n place src1.now tape1.now p1 × Labelled text.now table.now n place src2.now tape2.now p2 }
-    ensures { LabelsCompared text.now table.now n place src1.now tape1.now p1 src2.now tape2.now p2 result }
+) -> Ordering
+    requires { Labelled keys.now.text.now keys.now.table.now keys.now.paths place first.now.src.now first.now.tape.now p1 × Labelled keys.now.text.now keys.now.table.now keys.now.paths place second.now.src.now second.now.tape.now p2 }
+    ensures { LabelsCompared keys.now.text.now keys.now.table.now keys.now.paths place first.now.src.now first.now.tape.now p1 second.now.src.now second.now.tape.now p2 result }
 {
-    let v = view_at(tape1, p1);
-    let w = view_at(tape2, p2);
-    let names = compare_bytes(src1, v.start, v.end, src2, w.start, w.end);
-    if names != 1 {
+    let v = first.view(p1);
+    let w = second.view(p2);
+    let names = compare_bytes(first.part(v), second.part(w));
+    if names.is_ne() {
         return names;
     }
-    let own = child(text, table, n, place, src1, v.start, v.end);
-    compare_keys(
-        text,
-        table,
-        n,
-        own,
-        src1,
-        tape1,
-        p1 + 1,
-        v.next,
-        src2,
-        tape2,
-        p2 + 1,
-        w.next,
-    )
+    let own = keys.child(place, first.part(v));
+    compare_keys(keys, own, first, p1 + 1, v.next, second, p2 + 1, w.next)
 }
 
 // The same where the place of the first element is known: it is at the place `own`, and the second is in an element of the same path.
-pub fn compare_labels_at(
-    text: &[u8],
-    table: &[u32],
-    n: usize,
+pub fn compare_labels_at<'a>(
+    keys: &KeyTable,
     own: usize,
-    src1: &[u8],
-    tape1: &[u32],
+    first: &Document<'a>,
     p1: usize,
-    src2: &[u8],
-    tape2: &[u32],
+    second: &Document<'a>,
     p2: usize,
-) -> u8
-    requires { Beside text.now table.now n own src1.now tape1.now p1 src2.now tape2.now p2 }
-    ensures { LabelsComparedAt text.now table.now n own src1.now tape1.now p1 src2.now tape2.now p2 result }
+) -> Ordering
+    requires { Beside keys.now.text.now keys.now.table.now keys.now.paths own first.now.src.now first.now.tape.now p1 second.now.src.now second.now.tape.now p2 }
+    ensures { LabelsComparedAt keys.now.text.now keys.now.table.now keys.now.paths own first.now.src.now first.now.tape.now p1 second.now.src.now second.now.tape.now p2 result }
 {
-    let v = view_at(tape1, p1);
-    let w = view_at(tape2, p2);
-    let names = compare_bytes(src1, v.start, v.end, src2, w.start, w.end);
-    if names != 1 {
+    let v = first.view(p1);
+    let w = second.view(p2);
+    let names = compare_bytes(first.part(v), second.part(w));
+    if names.is_ne() {
         return names;
     }
-    compare_keys(
-        text,
-        table,
-        n,
-        own,
-        src1,
-        tape1,
-        p1 + 1,
-        v.next,
-        src2,
-        tape2,
-        p2 + 1,
-        w.next,
-    )
+    compare_keys(keys, own, first, p1 + 1, v.next, second, p2 + 1, w.next)
 }

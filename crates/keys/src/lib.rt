@@ -12,3 +12,4 @@ pub mod notation;
 pub mod order;
 pub mod placed;
 pub mod places;
+pub mod refusal;

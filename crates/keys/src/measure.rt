@@ -12,9 +12,9 @@ ghost use Rattle.keys.specs.Placed.{OfPlace};
 ghost use Rattle.keys.specs.Walks.{Walk, OfNodes, OfVersion};
 ghost use Rattle.keys.specs.Measure.{Within, passed, plus, plus_tags, plus_text, measured};
 
-use crate::places::{child, is_above};
+use crate::places::KeyTable;
 use xml::compare::{is_white, same_bytes, text_len};
-use xml::tape::view_at;
+use xml::tape::Document;
 
 // What a walk has met so far: so many nodes and bytes, or more of something than a version may have.
 #[derive(Clone, Copy)]
@@ -53,120 +53,100 @@ fn add(s: Sizes, nodes: usize, bytes: usize) -> Sizes
     }
 }
 
-// The two tags of an element more, whose name is src[a..e].
-fn add_tags(src: &[u8], a: usize, e: usize, s: Sizes) -> Sizes
-    requires { (a ≤ e) × (e ≤ length src.now) × (e - a ≤ 32768) × Within s }
-    ensures { result ≡ plus_tags s (slice a e src.now) }
+// The two tags of an element with the name more.
+fn add_tags(name: &[u8], s: Sizes) -> Sizes
+    requires { (length name.now ≤ 32768) × Within s }
+    ensures { result ≡ plus_tags s name.now }
 {
-    if same_bytes(src, a, e, b"T", 0, 1) {
-        return add(s, 0, 2 * (e - a) + 5);
+    if same_bytes(name, b"T") {
+        return add(s, 0, 2 * name.len() + 5);
     }
-    add(s, 1, 2 * (e - a) + 5)
+    add(s, 1, 2 * name.len() + 5)
 }
 
 // A run of text in an element at a place is dropped: it is white space above a frontier.
-pub fn is_dropped(table: &[u32], n: usize, place: usize, src: &[u8], a: usize, e: usize) -> bool
-    requires { (2 * n ≤ length table.now) × (a ≤ e) × (e ≤ length src.now) }
-    ensures { (text : Bytes) → OfPlace text table.now n place (λ K p. result ≡ (above K p && all is_white (unescape 0 (slice a e src.now)))) }
+pub fn is_dropped(keys: &KeyTable, place: usize, run: &[u8]) -> bool
+    requires { 2 * keys.now.paths ≤ length keys.now.table.now }
+    ensures { OfPlace keys.now.text.now keys.now.table.now keys.now.paths place (λ K p. result ≡ (above K p && all is_white (unescape 0 run.now))) }
 {
-    if !is_above(table, n, place) {
+    if !keys.is_above(place) {
         return false;
     }
-    is_white(src, a, e)
+    is_white(run)
 }
 
-// A run of text more, in an element at a place, whose raw bytes are src[a..e].
-fn add_text(
-    table: &[u32],
-    n: usize,
-    place: usize,
-    src: &[u8],
-    a: usize,
-    e: usize,
-    s: Sizes,
-) -> Sizes
-    requires { (2 * n ≤ length table.now) × (a ≤ e) × (e ≤ length src.now) × (e - a ≤ 32768) × Within s }
-    ensures { (text : Bytes) → OfPlace text table.now n place (λ K p. result ≡ plus_text K p s (unescape 0 (slice a e src.now))) }
+// A run of text more, in an element at a place.
+fn add_text(keys: &KeyTable, place: usize, run: &[u8], s: Sizes) -> Sizes
+    requires { (2 * keys.now.paths ≤ length keys.now.table.now) × (length run.now ≤ 32768) × Within s }
+    ensures { OfPlace keys.now.text.now keys.now.table.now keys.now.paths place (λ K p. result ≡ plus_text K p s (unescape 0 run.now)) }
 {
-    if is_dropped(table, n, place, src, a, e) {
+    if is_dropped(keys, place, run) {
         return s;
     }
-    add(s, 1, text_len(src, a, e))
+    add(s, 1, text_len(run))
 }
 
 // The node p more, in an element at a place, where elements may stand `depth` deep.
 #[cycle(measure_content_measure_node)]
 fn measure_node(
-    text: &[u8],
-    table: &[u32],
-    n: usize,
+    keys: &KeyTable,
     place: usize,
-    src: &[u8],
-    tape: &[u32],
+    doc: &Document,
     p: usize,
     depth: usize,
     s: Sizes,
 ) -> Sizes
-    requires { (p < next_at tape.now p) × Walk text.now table.now n place src.now tape.now p (next_at tape.now p) × Within s }
-    ensures { OfNodes text.now table.now n place src.now tape.now p (next_at tape.now p)
+    requires { (p < next_at doc.now.tape.now p) × Walk keys.now.text.now keys.now.table.now keys.now.paths place doc.now.src.now doc.now.tape.now p (next_at doc.now.tape.now p) × Within s }
+    ensures { OfNodes keys.now.text.now keys.now.table.now keys.now.paths place doc.now.src.now doc.now.tape.now p (next_at doc.now.tape.now p)
         (λ K q f. result ≡ measured K q depth f s) }
 {
-    let v = view_at(tape, p);
+    let v = doc.view(p);
     if v.kind == 0 {
-        return add_text(table, n, place, src, v.start, v.end, s);
+        return add_text(keys, place, doc.part(v), s);
     }
     if depth == 0 {
         return over();
     }
-    let t = add_tags(src, v.start, v.end, s);
+    let name = doc.part(v);
+    let t = add_tags(name, s);
     if t.over {
         return t;
     }
-    let below = child(text, table, n, place, src, v.start, v.end);
+    let below = keys.child(place, name);
     let d = depth - 1;
-    measure_content(text, table, n, below, src, tape, p + 1, v.next, d, t)
+    measure_content(keys, below, doc, p + 1, v.next, d, t)
 }
 
-// The nodes lo to hi more, in an element at a place, where elements may stand `depth` deep.
+// The nodes lo to hi more, in an element at a place, where elements may stand `depth` deep. They are linked by `next`, so no range counts them.
 #[cycle(measure_content_measure_node)]
 fn measure_content(
-    text: &[u8],
-    table: &[u32],
-    n: usize,
+    keys: &KeyTable,
     place: usize,
-    src: &[u8],
-    tape: &[u32],
+    doc: &Document,
     lo: usize,
     hi: usize,
     depth: usize,
     from: Sizes,
 ) -> Sizes
-    requires { Walk text.now table.now n place src.now tape.now lo hi × Within from × (from.over ≡ false) }
-    ensures { OfNodes text.now table.now n place src.now tape.now lo hi (λ K q f. result ≡ measured K q depth f from) }
+    requires { Walk keys.now.text.now keys.now.table.now keys.now.paths place doc.now.src.now doc.now.tape.now lo hi × Within from × (from.over ≡ false) }
+    ensures { OfNodes keys.now.text.now keys.now.table.now keys.now.paths place doc.now.src.now doc.now.tape.now lo hi (λ K q f. result ≡ measured K q depth f from) }
 {
     let mut s = from;
     let mut p = lo;
     while p < hi {
-        s = measure_node(text, table, n, place, src, tape, p, depth, s);
+        s = measure_node(keys, place, doc, p, depth, s);
         if s.over {
             return s;
         }
-        p = view_at(tape, p).next;
+        p = doc.view(p).next;
     }
     s
 }
 
 // 6, of the version with these nodes.
-pub fn too_large(
-    text: &[u8],
-    table: &[u32],
-    n: usize,
-    src: &[u8],
-    tape: &[u32],
-    count: usize,
-) -> bool
-    requires { Walk text.now table.now n 128 src.now tape.now 0 count }
-    ensures { OfVersion text.now table.now n src.now tape.now count
+pub fn too_large(keys: &KeyTable, doc: &Document, count: usize) -> bool
+    requires { Walk keys.now.text.now keys.now.table.now keys.now.paths 128 doc.now.src.now doc.now.tape.now 0 count }
+    ensures { OfVersion keys.now.text.now keys.now.table.now keys.now.paths doc.now.src.now doc.now.tape.now count
         (λ K f. Tidy false f → result ≡ too_large (drop_white K [] f)) }
 {
     let none = Sizes {
@@ -174,5 +154,5 @@ pub fn too_large(
         nodes: 0,
         bytes: 0,
     };
-    measure_content(text, table, n, 128, src, tape, 0, count, 16, none).over
+    measure_content(keys, 128, doc, 0, count, 16, none).over
 }

@@ -9,18 +9,12 @@ ghost use Rattle.keys.specs.LineRead.{ContextRead, KeysRead, NameRead, LineRead,
 use xml::compare::same_bytes;
 use xml::scan::{name_len, same};
 
-// The end of a part of a line; or it is not there.
+// The ends of a line's context, its name and its key names.
 #[derive(Clone, Copy)]
-pub enum End {
-    At(usize),
-    Nowhere,
-}
-
-// A line: the ends of its context, its name and its key names; or it is not in the notation.
-#[derive(Clone, Copy)]
-pub enum Line {
-    Parts(usize, usize, usize),
-    Wrong,
+pub struct Line {
+    pub context: usize,
+    pub name: usize,
+    pub names: usize,
 }
 
 // The end of the names that stand at a place, each after a `/`.
@@ -29,6 +23,7 @@ fn path_end(text: &[u8], from: usize) -> usize
     ensures { result ≡ from + path_run 0 (drop from text.now) }
 {
     let mut i = from;
+    // `while` and no `for`: each turn goes on by the length of what it reads.
     while same(text, i, b"/") == 1 {
         let n = name_len(text, i + 1);
         if n == 0 {
@@ -39,68 +34,67 @@ fn path_end(text: &[u8], from: usize) -> usize
     i
 }
 
-// The end of one to four names with `, ` between two; the first stands two bytes after `from`.
-fn names_end(text: &[u8], from: usize) -> End
+// The end of one to four names with `, ` between two, or none; the first stands two bytes after `from`.
+fn names_end(text: &[u8], from: usize) -> Option<usize>
     requires { from + 2 ≤ length text.now }
     ensures { result ≡ names_end text.now 4 from }
 {
     let mut i = from;
-    let mut k: usize = 0;
-    while k < 4 {
+    for _name in 0..4usize {
         let n = name_len(text, i + 2);
         if n == 0 {
-            return End::Nowhere;
+            return None;
         }
         i += 2 + n;
         if same(text, i, b", ") != 2 {
-            return End::At(i);
+            return Some(i);
         }
-        k += 1;
     }
-    End::Nowhere
+    None
 }
 
 // The end of the context of the line at a place, after its `(`; of a path that stands there, the names before `from` are known.
-fn context_end(text: &[u8], at: usize, from: usize) -> End
+fn context_end(text: &[u8], at: usize, from: usize) -> Option<usize>
     requires { (at ≤ length text.now) × Begun text.now at from }
     ensures { ContextRead text.now at result }
 {
     if at == 0 {
         if same(text, at, b"(/") == 2 {
-            return End::At(at + 2);
+            return Some(at + 2);
         }
-        return End::Nowhere;
+        return None;
     }
     if same(text, at, b"(") != 1 {
-        return End::Nowhere;
+        return None;
     }
     let end = path_end(text, from);
     if end == at + 1 {
-        return End::Nowhere;
+        return None;
     }
-    End::At(end)
+    Some(end)
 }
 
 // The end of the key names, at most four, that stand two bytes after a place.
-fn keys_end(text: &[u8], from: usize) -> End
+fn keys_end(text: &[u8], from: usize) -> Option<usize>
     requires { from + 2 ≤ length text.now }
     ensures { KeysRead text.now from result }
 {
     if same(text, from + 2, b"}") == 1 {
-        return End::At(from + 2);
+        return Some(from + 2);
     }
     names_end(text, from)
 }
 
-// The name word[a..e] is one of the names of a row, each two bytes after the one before it.
-pub fn is_among(text: &[u8], from: usize, end: usize, word: &[u8], a: usize, e: usize) -> bool
-    requires { Rowed 2 text.now end from × (a ≤ e) × (e ≤ length word.now) }
-    ensures { (ns : List Bytes) → Row 2 text.now end from ns → result ≡ any (same_bytes (slice a e word.now)) ns }
+// The word is one of the names of a row, each two bytes after the one before it.
+pub fn is_among(text: &[u8], from: usize, end: usize, word: &[u8]) -> bool
+    requires { Rowed 2 text.now end from }
+    ensures { (ns : List Bytes) → Row 2 text.now end from ns → result ≡ any (same_bytes word.now) ns }
 {
     let mut i = from;
+    // `while` and no `for`: each turn goes on by the length of what it reads.
     while i + 2 < end {
         let n = name_len(text, i + 2);
-        if same_bytes(word, a, e, text, i + 2, i + 2 + n) {
+        if same_bytes(word, &text[i + 2..i + 2 + n]) {
             return true;
         }
         i += 2 + n;
@@ -114,9 +108,10 @@ fn are_distinct(text: &[u8], from: usize, end: usize) -> bool
     ensures { (ns : List Bytes) → Row 2 text.now end from ns → result ≡ distinct same_bytes ns }
 {
     let mut i = from;
+    // `while` and no `for`: each turn goes on by the length of what it reads.
     while i + 2 < end {
         let n = name_len(text, i + 2);
-        if is_among(text, i + 2 + n, end, text, i + 2, i + 2 + n) {
+        if is_among(text, i + 2 + n, end, &text[i + 2..i + 2 + n]) {
             return false;
         }
         i += 2 + n;
@@ -124,46 +119,42 @@ fn are_distinct(text: &[u8], from: usize, end: usize) -> bool
     true
 }
 
-// The line at a place, from the end of its name on.
-fn line_end(text: &[u8], at: usize, context: usize, name: usize) -> Line
+// The line at a place, from the end of its name on; none, where it is not in the notation.
+fn line_end(text: &[u8], at: usize, context: usize, name: usize) -> Option<Line>
     requires { NameRead text.now at context name }
     ensures { LineRead text.now at result }
 {
-    match keys_end(text, name + 1) {
-        End::Nowhere => Line::Wrong,
-        End::At(names) => {
-            if same(text, names, b"}))\n") != 4 {
-                return Line::Wrong;
-            }
-            if !are_distinct(text, name + 1, names) {
-                return Line::Wrong;
-            }
-            Line::Parts(context, name, names)
-        }
+    let names = keys_end(text, name + 1)?;
+    if same(text, names, b"}))\n") != 4 {
+        return None;
     }
+    if !are_distinct(text, name + 1, names) {
+        return None;
+    }
+    Some(Line {
+        context,
+        name,
+        names,
+    })
 }
 
-// The line at a place; of a path that stands after its `(`, the names before `from` are known.
-pub fn line_at(text: &[u8], at: usize, from: usize) -> Line
+// The line at a place, if it is in the notation; of a path that stands after its `(`, the names before `from` are known.
+pub fn line_at(text: &[u8], at: usize, from: usize) -> Option<Line>
     requires { (at ≤ length text.now) × Begun text.now at from }
     ensures { LineRead text.now at result }
 {
-    match context_end(text, at, from) {
-        End::Nowhere => Line::Wrong,
-        End::At(context) => {
-            if same(text, context, b", (") != 3 {
-                return Line::Wrong;
-            }
-            let name = context + 3 + name_len(text, context + 3);
-            if name == context + 3 {
-                return Line::Wrong;
-            }
-            if same(text, name, b", {") != 3 {
-                return Line::Wrong;
-            }
-            line_end(text, at, context, name)
-        }
+    let context = context_end(text, at, from)?;
+    if same(text, context, b", (") != 3 {
+        return None;
     }
+    let name = context + 3 + name_len(text, context + 3);
+    if name == context + 3 {
+        return None;
+    }
+    if same(text, name, b", {") != 3 {
+        return None;
+    }
+    line_end(text, at, context, name)
 }
 
 // The whole text is lines in the notation: those before `from` are, one at least, and the rest is read.
@@ -172,13 +163,12 @@ pub fn in_notation_from(text: &[u8], from: usize) -> bool
     ensures { NotationRead text.now result }
 {
     let mut at = from;
+    // `while` and no `for`: each turn goes on by the length of what it reads.
     while at < text.len() {
-        match line_at(text, at, at + 1) {
-            Line::Wrong => return false,
-            Line::Parts(_, _, names) => {
-                at = names + 4;
-            }
-        }
+        let Some(line) = line_at(text, at, at + 1) else {
+            return false;
+        };
+        at = line.names + 4;
     }
     true
 }

@@ -9,28 +9,20 @@ ghost use Rattle.keys.specs.Placed.{OfPlace};
 ghost use Rattle.keys.specs.Walks.{Walk, OfNodes, OfVersion};
 ghost use Rattle.keys.specs.Strays.{astray, strange};
 
-use crate::places::{child, is_above};
+use crate::places::KeyTable;
 use xml::compare::{is_white, same_bytes};
-use xml::tape::view_at;
+use xml::tape::Document;
 
-// An element with the name src[a..e], in one at a place, may not stand there; its own place is `below`.
-fn is_strange(
-    table: &[u32],
-    n: usize,
-    place: usize,
-    below: usize,
-    src: &[u8],
-    a: usize,
-    e: usize,
-) -> bool
-    requires { (2 * n ≤ length table.now) × (a ≤ e) × (e ≤ length src.now) }
-    ensures { (text : Bytes) → OfPlace text table.now n place
-        (λ K p. place_of K (p ▸ slice a e src.now) ≡ below → result ≡ strange K p (slice a e src.now)) }
+// An element with the name, in one at a place, may not stand there; its own place is `below`.
+fn is_strange(keys: &KeyTable, place: usize, below: usize, name: &[u8]) -> bool
+    requires { (2 * keys.now.paths ≤ length keys.now.table.now) }
+    ensures { OfPlace keys.now.text.now keys.now.table.now keys.now.paths place
+        (λ K p. place_of K (p ▸ name.now) ≡ below → result ≡ strange K p name.now) }
 {
-    if same_bytes(src, a, e, b"T", 0, 1) {
+    if same_bytes(name, b"T") {
         return true;
     }
-    if !is_above(table, n, place) {
+    if !keys.is_above(place) {
         return false;
     }
     below == 129
@@ -38,73 +30,50 @@ fn is_strange(
 
 // In the node p, in an element at a place, something is misplaced.
 #[cycle(misplaced_content_misplaced_node)]
-fn misplaced_node(
-    text: &[u8],
-    table: &[u32],
-    n: usize,
-    place: usize,
-    src: &[u8],
-    tape: &[u32],
-    p: usize,
-) -> bool
-    requires { (p < next_at tape.now p) × Walk text.now table.now n place src.now tape.now p (next_at tape.now p) }
-    ensures { OfNodes text.now table.now n place src.now tape.now p (next_at tape.now p)
+fn misplaced_node(keys: &KeyTable, place: usize, doc: &Document, p: usize) -> bool
+    requires { (p < next_at doc.now.tape.now p) × Walk keys.now.text.now keys.now.table.now keys.now.paths place doc.now.src.now doc.now.tape.now p (next_at doc.now.tape.now p) }
+    ensures { OfNodes keys.now.text.now keys.now.table.now keys.now.paths place doc.now.src.now doc.now.tape.now p (next_at doc.now.tape.now p)
         (λ K q f. result ≡ astray K q f) }
 {
-    let v = view_at(tape, p);
+    let v = doc.view(p);
     if v.kind == 0 {
-        if !is_above(table, n, place) {
+        if !keys.is_above(place) {
             return false;
         }
-        return !is_white(src, v.start, v.end);
+        return !is_white(doc.part(v));
     }
     if v.kind != 1 {
         return true;
     }
-    let below = child(text, table, n, place, src, v.start, v.end);
-    if is_strange(table, n, place, below, src, v.start, v.end) {
+    let name = doc.part(v);
+    let below = keys.child(place, name);
+    if is_strange(keys, place, below, name) {
         return true;
     }
-    misplaced_content(text, table, n, below, src, tape, p + 1, v.next)
+    misplaced_content(keys, below, doc, p + 1, v.next)
 }
 
-// In the nodes lo to hi, in an element at a place, something is misplaced.
+// In the nodes lo to hi, in an element at a place, something is misplaced. They are linked by `next`, so no range counts them.
 #[cycle(misplaced_content_misplaced_node)]
-fn misplaced_content(
-    text: &[u8],
-    table: &[u32],
-    n: usize,
-    place: usize,
-    src: &[u8],
-    tape: &[u32],
-    lo: usize,
-    hi: usize,
-) -> bool
-    requires { Walk text.now table.now n place src.now tape.now lo hi }
-    ensures { OfNodes text.now table.now n place src.now tape.now lo hi (λ K q f. result ≡ astray K q f) }
+fn misplaced_content(keys: &KeyTable, place: usize, doc: &Document, lo: usize, hi: usize) -> bool
+    requires { Walk keys.now.text.now keys.now.table.now keys.now.paths place doc.now.src.now doc.now.tape.now lo hi }
+    ensures { OfNodes keys.now.text.now keys.now.table.now keys.now.paths place doc.now.src.now doc.now.tape.now lo hi (λ K q f. result ≡ astray K q f) }
 {
     let mut p = lo;
     while p < hi {
-        if misplaced_node(text, table, n, place, src, tape, p) {
+        if misplaced_node(keys, place, doc, p) {
             return true;
         }
-        p = view_at(tape, p).next;
+        p = doc.view(p).next;
     }
     false
 }
 
 // 7, of the version with these nodes.
-pub fn is_misplaced(
-    text: &[u8],
-    table: &[u32],
-    n: usize,
-    src: &[u8],
-    tape: &[u32],
-    count: usize,
-) -> bool
-    requires { Walk text.now table.now n 128 src.now tape.now 0 count }
-    ensures { OfVersion text.now table.now n src.now tape.now count
+pub fn is_misplaced(keys: &KeyTable, doc: &Document, count: usize) -> bool
+    requires { Walk keys.now.text.now keys.now.table.now keys.now.paths 128 doc.now.src.now doc.now.tape.now 0 count }
+    ensures { OfVersion keys.now.text.now keys.now.table.now keys.now.paths doc.now.src.now doc.now.tape.now count
         (λ K f. result ≡ misplaced K [] (drop_white K [] f)) }
 {
-    misplaced_content(text, table, n, 128, src, tape, 0, count)
+    misplaced_content(keys, 128, doc, 0, count)
 }

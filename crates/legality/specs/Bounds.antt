@@ -1,5 +1,5 @@
 -- What one version has of some nodes at most: of the contents of a frontier, of which it has no two (Parted.antt), the largest counts.
-use Rattle.std.specs.Prelude.{ℕ, zero, suc, ◌+◌, ◌*◌, ◌-◌, ◌/◌, ◌%◌, ◌<◌, ◌≤◌, max, ◌≡◌, Bool, true, false, List, [], leb, length}
+use Rattle.std.specs.Prelude.{Option, IfSome, ℕ, zero, suc, ◌+◌, ◌*◌, ◌-◌, ◌%◌, ◌<◌, ◌≤◌, max, ◌≡◌, Bool, true, false, List, [], leb, length}
 use Rattle.std.proofs.Common.{arith, sym, ◌∙◌, length-append}
 use Rattle.std.proofs.Math.Path.{refl, ap}
 use Rattle.std.proofs.Math.Bool.{not, and-false, or-false}
@@ -23,6 +23,7 @@ use Rattle.legality.specs.Going.{text-short, name-length}
 use Rattle.legality.specs.Layered.{depth-pick, depth-join}
 use Rattle.legality.specs.Parted.{has_content, Parted, has_join, parted-join, parted-last, siblings-parted}
 use Rattle.legality.specs.SmallLaws.{not-large}
+use Rattle.legality.specs.declared.bounds.Size.{Size}
 
 -- a `T` around anything but one element: a content of a frontier
 unfoldable pub content_node : Forest → Bool
@@ -43,24 +44,9 @@ pub record Most (src cells : List ℕ) (lo hi left n b : ℕ) : Type 0 where
   pub short : b ≤ 163840 * (hi - lo)
   pub each : (f : Forest) → Tape src cells lo hi f → (v : ℕ) → Parted v f → Bounded v f left n b
 
--- what a walk answers in one number, the nodes times 2 ^ 32 and the bytes: 513 nodes and more say nothing
-abbrev pub Bounds : List ℕ → List ℕ → ℕ → ℕ → ℕ → ℕ → Type 0
-Bounds src cells lo hi left r = r < 2203318222848 → Most src cells lo hi left (r / 4294967296) (r % 4294967296)
-
-pub stopped-bounds : {src cells : List ℕ} {lo hi left r : ℕ} → 2203318222848 ≤ r → Bounds src cells lo hi left r
-stopped-bounds e d = absurd (omega arith)
-
--- a number holds what it was made of
-packed-nodes : (n b : ℕ) → b < 4294967296 → (n * 4294967296 + b) / 4294967296 ≡ n
-packed-nodes n b l = omega arith
-
-packed-bytes : (n b : ℕ) → b < 4294967296 → (n * 4294967296 + b) % 4294967296 ≡ b
-packed-bytes n b l = omega arith
-
-pub packed-bounds : {src cells : List ℕ} {lo hi left n b r : ℕ} → Most src cells lo hi left n b → hi ≤ 16384 → r ≡ n * 4294967296 + b → Bounds src cells lo hi left r
-packed-bounds {n = n} {b} m h e d =
-    let l : b < 4294967296 = omega (arith, m.short) in
-    rw (e, packed-nodes n b l, packed-bytes n b l) m
+-- what a walk answers, unless it has stopped
+abbrev pub Bounds : List ℕ → List ℕ → ℕ → ℕ → ℕ → Option Size → Type 0
+Bounds src cells lo hi left r = IfSome r (λ s. Most src cells lo hi left s.nodes s.bytes)
 
 -- ---- a `T` alone, in a version that has it or lacks it
 pick-has : (v : ℕ) (s : Bytes) (k : Forest) → belongs v s ≡ true → pick v (stamp s k end) ≡ pick v k

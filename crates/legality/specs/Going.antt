@@ -1,5 +1,5 @@
 -- The walk that measures every version, on its way from sibling to sibling.
-use Rattle.std.specs.Prelude.{ℕ, ◌+◌, ◌-◌, ◌%◌, ◌^◌, ◌<◌, ◌≤◌, ◌≡◌, refl, Bool, true, false, List, eqb, length}
+use Rattle.std.specs.Prelude.{Option, ℕ, ◌+◌, ◌-◌, ◌%◌, ◌^◌, ◌<◌, ◌≤◌, ◌≡◌, refl, Bool, true, false, List, eqb, length}
 use Rattle.std.proofs.Common.{arith, sym, ◌∙◌, ap, eqb-true}
 use Rattle.std.proofs.lemmas.Bool.{eqb-false}
 use Rattle.xml.specs.Complete.{join-end, join-assoc}
@@ -12,9 +12,9 @@ use Rattle.xml.specs.SignLaws.{length-spelt}
 use Rattle.xml.specs.Truth.{by-test, clash, or-both, or-first, or-second}
 use Rattle.versions.specs.Sizes.{own_nodes, own_bytes, timed_in}
 use Rattle.versions.specs.Grown.{Cells, grown-none, grown-then, grown-same}
-use Rattle.legality.specs.Measured.{owned, stops, nodes-join, bytes-join, timed-join, stops_join, few-nodes, few_bytes, AllRead, read_join, Room, Sums, Measured}
+use Rattle.legality.specs.Measured.{stopped, nodes_of, bytes_of, owned, stops, nodes-join, bytes-join, timed-join, stops_join, few-nodes, few_bytes, AllRead, read_join, Room, Sums, Measured}
 use Rattle.legality.specs.Raised.{Readable}
-use Rattle.legality.specs.declared.sizes.Own.{Own}
+use Rattle.legality.specs.declared.bounds.Size.{Size}
 
 -- the nodes lo to p are measured, and p to q are left
 pub record Going (src cells : List ℕ) (lo p q left : ℕ) (w : Bool) (f : Forest) (n b : ℕ) (nodes nodes' bytes bytes' : List ℕ) : Type 0 where
@@ -69,8 +69,8 @@ module _ {src cells : List ℕ} where
       }
 
   -- the sums fit their words
-  pub going-fits : {lo p q left : ℕ} {w : Bool} {f : Forest} {n b : ℕ} {x x' x'' y y' y'' : List ℕ} {r : Own} → Room src cells lo q x y → Going src cells lo p q left w f n b x x' y y' → p < q
-      → ((h : Forest) → Tape src cells p (next_at cells p) h → Measured left w h r x' x'' y' y'') → r.stopped ≡ false → (n + r.nodes < 2 ^ 32) × (b + r.bytes < 2 ^ 32)
+  pub going-fits : {lo p q left : ℕ} {w : Bool} {f : Forest} {n b : ℕ} {x x' x'' y y' y'' : List ℕ} {r : Option Size} → Room src cells lo q x y → Going src cells lo p q left w f n b x x' y y' → p < q
+      → ((h : Forest) → Tape src cells p (next_at cells p) h → Measured left w h r x' x'' y' y'') → (stopped r) ≡ false → (n + (nodes_of r) < 2 ^ 32) × (b + (bytes_of r) < 2 ^ 32)
   going-fits {lo} {p} {q} m g l k e =
       let s = split g.after l in
       let z = tape-le s.here in
@@ -81,8 +81,8 @@ module _ {src cells : List ℕ} where
         omega (arith, m.few, g.sums.own-bytes, t.own-bytes, few_bytes 0 g.before, few_bytes 0 s.here),
       )
 
-  pub going_more : {lo p q left : ℕ} {w : Bool} {f : Forest} {n b i j : ℕ} {x x' x'' y y' y'' : List ℕ} {r : Own} → Going src cells lo p q left w f n b x x' y y' → p < q
-      → ((h : Forest) → Tape src cells p (next_at cells p) h → Measured left w h r x' x'' y' y'') → r.stopped ≡ false → i ≡ n + r.nodes → j ≡ b + r.bytes
+  pub going_more : {lo p q left : ℕ} {w : Bool} {f : Forest} {n b i j : ℕ} {x x' x'' y y' y'' : List ℕ} {r : Option Size} → Going src cells lo p q left w f n b x x' y y' → p < q
+      → ((h : Forest) → Tape src cells p (next_at cells p) h → Measured left w h r x' x'' y' y'') → (stopped r) ≡ false → i ≡ n + (nodes_of r) → j ≡ b + (bytes_of r)
       → Going src cells lo (next_at cells p) q left w f i j x x'' y y''
   going_more {left = left} {w = w} g l k e a c =
       let s = split g.after l in
@@ -97,8 +97,8 @@ module _ {src cells : List ℕ} where
         sums = sums_join g.sums (t.sums e) a c;
       }
 
-  pub going-stopped : {lo p q left : ℕ} {w : Bool} {f : Forest} {n b : ℕ} {x x' x'' y y' y'' : List ℕ} {r : Own} → Going src cells lo p q left w f n b x x' y y' → p < q
-      → ((h : Forest) → Tape src cells p (next_at cells p) h → Measured left w h r x' x'' y' y'') → r.stopped ≡ true → Measured left w f r x x'' y y''
+  pub going-stopped : {lo p q left : ℕ} {w : Bool} {f : Forest} {n b : ℕ} {x x' x'' y y' y'' : List ℕ} {r : Option Size} → Going src cells lo p q left w f n b x x' y y' → p < q
+      → ((h : Forest) → Tape src cells p (next_at cells p) h → Measured left w h r x' x'' y' y'') → (stopped r) ≡ true → Measured left w f r x x'' y y''
   going-stopped {left = left} {w = w} g l k e =
       let s = split g.after l in
       let t = k s.first s.here in
@@ -150,16 +150,16 @@ module _ {src cells : List ℕ} where
       }
 
   -- what it holds itself
-  pub inner-own : {lo hi left : ℕ} {w : Bool} {x x' y y' : List ℕ} {r : Own} → Room src cells lo hi x y
-      → ((h : Forest) → Tape src cells lo hi h → Measured left w h r x x' y y') → r.stopped ≡ false → (r.nodes ≤ 16384) × (r.bytes ≤ 2684354560)
+  pub inner-own : {lo hi left : ℕ} {w : Bool} {x x' y y' : List ℕ} {r : Option Size} → Room src cells lo hi x y
+      → ((h : Forest) → Tape src cells lo hi h → Measured left w h r x x' y y') → (stopped r) ≡ false → ((nodes_of r) ≤ 16384) × ((bytes_of r) ≤ 2684354560)
   inner-own m k e =
       let t = (k m.forest m.tape).sums e in
       let z = tape-le m.tape in
       (omega (arith, m.few, t.own-nodes, few-nodes 0 m.tape), omega (arith, m.few, t.own-bytes, few_bytes 0 m.tape))
 
   -- and the cells' room for it
-  pub inner-cells : {lo hi left : ℕ} {w : Bool} {x x' y y' : List ℕ} {r : Own} → Room src cells lo hi x y
-      → ((h : Forest) → Tape src cells lo hi h → Measured left w h r x x' y y') → r.stopped ≡ false → Cells x' 1 r.nodes × Cells y' 1 r.bytes
+  pub inner-cells : {lo hi left : ℕ} {w : Bool} {x x' y y' : List ℕ} {r : Option Size} → Room src cells lo hi x y
+      → ((h : Forest) → Tape src cells lo hi h → Measured left w h r x x' y y') → (stopped r) ≡ false → Cells x' 1 (nodes_of r) × Cells y' 1 (bytes_of r)
   inner-cells m k e =
       let t = (k m.forest m.tape).sums e in (
         record { count = t.in-nodes.count ∙ m.nodes-count; room = λ v a c. omega (arith, t.own-nodes, t.in-nodes.each v a c, m.nodes-room v a c, few-nodes v m.tape) },

@@ -1,5 +1,5 @@
 -- The versions of a frontier that no content so far has. A content takes its own from them; the union of the contents is what is taken.
-use Rattle.std.specs.Prelude.{ℕ, ◌%◌, ◌≤◌, ◌<◌, ◌≡◌, Bool, ◌&&◌, ◌||◌, List, leb}
+use Rattle.std.specs.Prelude.{ℕ, ◌%◌, ◌≤◌, ◌<◌, ◌≡◌, Bool, ◌&&◌, ◌||◌, List, leb, Some, None}
 use Rattle.std.proofs.Common.{arith, sym, ◌∙◌, le-leb}
 use Rattle.std.proofs.Math.Path.{refl, ap, fun_ext}
 use Rattle.std.proofs.Math.Bool.{true, false, not, beq}
@@ -78,29 +78,49 @@ module _ (t l : ℕ → Bool) where
       has true false e d = sym d
       has false b e d = clash (sym e)
 
-  -- of a content whose set is not to be taken, or begins too early
-  pub way-untaken : {src cells : List ℕ} {n lo p q m c : ℕ} {whole : Bool} → Way src cells lo p q n t (without t l) m c whole → p < q → head_at cells p % 4 ≡ 2
-      → first_taken l (parsed (bytes_at src cells p)) ≤ m → whole ≡ false
+  -- of a content whose set is not to be taken
+  pub way-missed : {src cells : List ℕ} {n lo p q m c : ℕ} {whole : Bool} → Way src cells lo p q n t (without t l) m c whole → p < q → head_at cells p % 4 ≡ 2
+      → None ≡ first_taken l (parsed (bytes_at src cells p)) → whole ≡ false
   unfolding first_taken
-  way-untaken {src} {cells} {n} {lo} {p} {q} {m} {c} {whole} x o k h = go (parsed (bytes_at src cells p)) refl
+  way-missed {src} {cells} {n} {lo} {p} {q} {m} {c} {whole} x o k h = go (parsed (bytes_at src cells p)) refl
+    where
+      go : (y : Outcome) → parsed (bytes_at src cells p) ≡ y → whole ≡ false
+      go refused e = way-refused x o k e
+      go (accepted s) e = by-test (subset s l) (λ z. let y : None ≡ Some (first_in 1024 s 0) = rw (e, z) at h in absurd cc) (λ z. way-lacking x o k s e z)
+
+  -- or begins too early
+  pub way-untaken : {src cells : List ℕ} {n lo p q m c : ℕ} {whole : Bool} → Way src cells lo p q n t (without t l) m c whole → p < q → head_at cells p % 4 ≡ 2
+      → (r : ℕ) → Some r ≡ first_taken l (parsed (bytes_at src cells p)) → r ≤ m → whole ≡ false
+  unfolding first_taken
+  way-untaken {src} {cells} {n} {lo} {p} {q} {m} {c} {whole} x o k r h early = go (parsed (bytes_at src cells p)) refl
     where
       go : (y : Outcome) → parsed (bytes_at src cells p) ≡ y → whole ≡ false
       go refused e = way-refused x o k e
       go (accepted s) e =
-          by-test (subset s l) (λ z. way-not x o k s e (follows-early n (without t l) m s (rw (e, z) at h))) (λ z. way-lacking x o k s e z)
+          by-test (subset s l)
+          (λ z.
+          let y : Some r ≡ Some (first_in 1024 s 0) = rw (e, z) at h in
+          let w : r ≡ first_in 1024 s 0 = cc in
+          way-not x o k s e (follows-early n (without t l) m s (omega (arith, w, early))))
+          (λ z. way-lacking x o k s e z)
 
--- a set that was taken: r, past m, is its first number
+-- a set that was taken: r is its first number
 pub record Took (l : ℕ → Bool) (b : Bytes) (r : ℕ) : Type 0 where
   pub set : ℕ → Bool
   pub is : parsed b ≡ accepted set
   pub had : subset set l ≡ true
   pub first : r ≡ first_in 1024 set 0
 
-pub took : (l : ℕ → Bool) (b : Bytes) (m r : ℕ) → r ≡ first_taken l (parsed b) → m < r → Took l b r
+pub took : (l : ℕ → Bool) (b : Bytes) (r : ℕ) → Some r ≡ first_taken l (parsed b) → Took l b r
 unfolding first_taken
-took l b m r e h = go (parsed b) refl
+took l b r e = go (parsed b) refl
   where
     go : (y : Outcome) → parsed b ≡ y → Took l b r
-    go refused d = let z : r ≡ 0 = rw d at e in absurd (omega arith)
+    go refused d = let z : Some r ≡ None = rw d at e in absurd cc
     go (accepted s) d =
-        by-test (subset s l) (λ z. record { set = s; is = d; had = z; first = rw (d, z) at e }) (λ z. let w : r ≡ 0 = rw (d, z) at e in absurd (omega arith))
+        by-test (subset s l)
+        (λ z.
+        let y : Some r ≡ Some (first_in 1024 s 0) = rw (d, z) at e in
+        let w : r ≡ first_in 1024 s 0 = cc in
+        record { set = s; is = d; had = z; first = w })
+        (λ z. let y : Some r ≡ None = rw (d, z) at e in absurd cc)

@@ -1,5 +1,5 @@
 -- The walk that measures every version (Sizes.antt says what): where it stops, what it asks, and what it has done.
-use Rattle.std.specs.Prelude.{ℕ, ◌+◌, ◌*◌, ◌-◌, ◌%◌, ◌<◌, ◌≤◌, ◌≡◌, Bool, true, false, ◌||◌, List, eqb, get_or}
+use Rattle.std.specs.Prelude.{Option, Some, None, ℕ, ◌+◌, ◌*◌, ◌-◌, ◌%◌, ◌<◌, ◌≤◌, ◌≡◌, Bool, true, false, ◌||◌, List, eqb, get_or}
 use native.Mathlib.Omega.{arith}
 use Rattle.std.proofs.Math.Path.{refl, sym, ap, ap₂}
 use Rattle.std.proofs.Common.{◌∙◌}
@@ -19,11 +19,23 @@ use Rattle.timestamp.specs.Parses.{text-parse}
 use Rattle.versions.specs.Sizes.{one, own_nodes, own_bytes, when_in, timed_in}
 use Rattle.versions.specs.Grown.{Grown, grown-none, grown-then, grown-same}
 use Rattle.legality.specs.Raised.{Readable}
-use Rattle.legality.specs.declared.sizes.Own.{Own}
+use Rattle.legality.specs.declared.bounds.Size.{Size}
 
 -- what a walk that has not stopped answers
-abbrev pub owned : ℕ → ℕ → Own
-owned n b = record { nodes = n; bytes = b; stopped = false }
+abbrev pub owned : ℕ → ℕ → Option Size
+owned n b = Some (record { nodes = n; bytes = b })
+
+abbrev pub stopped : Option Size → Bool
+stopped None = true
+stopped (Some s) = false
+
+abbrev pub nodes_of : Option Size → ℕ
+nodes_of None = 0
+nodes_of (Some s) = s.nodes
+
+abbrev pub bytes_of : Option Size → ℕ
+bytes_of None = 0
+bytes_of (Some s) = s.bytes
 
 -- each `T` has the text of a set
 abbrev pub AllRead : Forest → Type 0
@@ -131,11 +143,11 @@ pub record Sums (f : Forest) (n b : ℕ) (nodes nodes' bytes bytes' : List ℕ) 
   pub in-nodes : Grown nodes nodes' (λ v. timed_in own_nodes v f)
   pub in_bytes : Grown bytes bytes' (λ v. timed_in own_bytes v f)
 
-pub record Measured (left : ℕ) (w : Bool) (f : Forest) (r : Own) (nodes nodes' bytes bytes' : List ℕ) : Type 0 where
+pub record Measured (left : ℕ) (w : Bool) (f : Forest) (r : Option Size) (nodes nodes' bytes bytes' : List ℕ) : Type 0 where
   pub nodes-kept : length nodes' ≡ length nodes
   pub bytes-kept : length bytes' ≡ length bytes
-  pub stop : r.stopped ≡ stops left w f
-  pub sums : r.stopped ≡ false → Sums f r.nodes r.bytes nodes nodes' bytes bytes'
+  pub stop : (stopped r) ≡ stops left w f
+  pub sums : (stopped r) ≡ false → Sums f (nodes_of r) (bytes_of r) nodes nodes' bytes bytes'
 
 -- ---- one node
 sums-measured : {left n b : ℕ} {w : Bool} {f : Forest} {x x' y y' : List ℕ} → stops left w f ≡ false → Sums f n b x x' y y'
@@ -143,7 +155,7 @@ sums-measured : {left n b : ℕ} {w : Bool} {f : Forest} {x x' y y' : List ℕ} 
 sums-measured e s = record { nodes-kept = s.in-nodes.count; bytes-kept = s.in_bytes.count; stop = sym e; sums = λ _. s }
 
 -- a walk that has stopped, with the lengths as they were
-stopped-measured : {left : ℕ} {w : Bool} {f : Forest} {r : Own} {x x' y y' : List ℕ} → length x' ≡ length x → length y' ≡ length y → r.stopped ≡ true → stops left w f ≡ true → Measured left w f r x x' y y'
+stopped-measured : {left : ℕ} {w : Bool} {f : Forest} {r : Option Size} {x x' y y' : List ℕ} → length x' ≡ length x → length y' ≡ length y → (stopped r) ≡ true → stops left w f ≡ true → Measured left w f r x x' y y'
 stopped-measured l k e s = record { nodes-kept = l; bytes-kept = k; stop = e ∙ sym s; sums = λ d. clash (sym e ∙ d) }
 
 module _ {src cells : List ℕ} {p left : ℕ} {w : Bool} {x y : List ℕ} where
@@ -158,24 +170,24 @@ module _ {src cells : List ℕ} {p left : ℕ} {w : Bool} {x y : List ℕ} where
   run-measured t o d = text-measured (rw o.ends at t) o.node.forward o.run d
 
   -- an element deeper than the walk may go
-  pub deep-measured : {f : Forest} {r : Own} → Tape src cells p (next_at cells p) f → p < next_at cells p → head_at cells p % 4 ≡ 1 → left ≡ 0 → r.stopped ≡ true → Measured left w f r x x y y
+  pub deep-measured : {f : Forest} {r : Option Size} → Tape src cells p (next_at cells p) f → p < next_at cells p → head_at cells p % 4 ≡ 1 → left ≡ 0 → (stopped r) ≡ true → Measured left w f r x x y y
   unfolding stops
   deep-measured t l k e s =
       let i = inner-node t l (λ z. omega arith) in
       stopped-measured refl refl s (rw (i.element k, eq-eqb left 0 e) refl)
 
   -- the walk stopped in it
-  pub element-stopped : {f : Forest} {r : Own} {x' y' : List ℕ} → Tape src cells p (next_at cells p) f → p < next_at cells p → head_at cells p % 4 ≡ 1 → (left ≡ 0 → ⊥)
-      → ((g : Forest) → Tape src cells (p + 1) (next_at cells p) g → Measured (left - 1) false g r x x' y y') → r.stopped ≡ true → Measured left w f r x x' y y'
+  pub element-stopped : {f : Forest} {r : Option Size} {x' y' : List ℕ} → Tape src cells p (next_at cells p) f → p < next_at cells p → head_at cells p % 4 ≡ 1 → (left ≡ 0 → ⊥)
+      → ((g : Forest) → Tape src cells (p + 1) (next_at cells p) g → Measured (left - 1) false g r x x' y y') → (stopped r) ≡ true → Measured left w f r x x' y y'
   unfolding stops
   element-stopped t l k e m s =
       let i = inner-node t l (λ z. omega arith) in
       let j = m i.kids i.tape in
       stopped-measured j.nodes-kept j.bytes-kept s (rw (i.element k, ne_eqb left 0 e, sym j.stop ∙ s) refl)
 
-  pub element-measured : {f : Forest} {r : Own} {x' y' : List ℕ} {o n b : ℕ} → Tape src cells p (next_at cells p) f → p < next_at cells p → head_at cells p % 4 ≡ 1 → (left ≡ 0 → ⊥)
-      → ((g : Forest) → Tape src cells (p + 1) (next_at cells p) g → Measured (left - 1) false g r x x' y y') → r.stopped ≡ false
-      → o ≡ one (bytes_at src cells p) → n ≡ o + r.nodes → b ≡ 2 * length (bytes_at src cells p) + 5 + r.bytes
+  pub element-measured : {f : Forest} {r : Option Size} {x' y' : List ℕ} {o n b : ℕ} → Tape src cells p (next_at cells p) f → p < next_at cells p → head_at cells p % 4 ≡ 1 → (left ≡ 0 → ⊥)
+      → ((g : Forest) → Tape src cells (p + 1) (next_at cells p) g → Measured (left - 1) false g r x x' y y') → (stopped r) ≡ false
+      → o ≡ one (bytes_at src cells p) → n ≡ o + (nodes_of r) → b ≡ 2 * length (bytes_at src cells p) + 5 + (bytes_of r)
       → Measured left w f (owned n b) x x' y y'
   unfolding stops own_nodes own_bytes timed_in
   element-measured t l k e m s a c d =
@@ -190,23 +202,23 @@ module _ {src cells : List ℕ} {p left : ℕ} {w : Bool} {x y : List ℕ} where
       }))
 
   -- a `T` straight in a `T`
-  pub twice-measured : {f : Forest} {r : Own} → Tape src cells p (next_at cells p) f → p < next_at cells p → head_at cells p % 4 ≡ 2 → w ≡ true → r.stopped ≡ true → Measured left w f r x x y y
+  pub twice-measured : {f : Forest} {r : Option Size} → Tape src cells p (next_at cells p) f → p < next_at cells p → head_at cells p % 4 ≡ 2 → w ≡ true → (stopped r) ≡ true → Measured left w f r x x y y
   unfolding stops
   twice-measured t l k e s =
       let i = inner-node t l (λ z. omega arith) in
       stopped-measured refl refl s (rw (i.timed k, e) refl)
 
-  pub timed-stopped : {f : Forest} {r : Own} {x' y' : List ℕ} → Tape src cells p (next_at cells p) f → p < next_at cells p → head_at cells p % 4 ≡ 2 → w ≡ false
-      → ((g : Forest) → Tape src cells (p + 1) (next_at cells p) g → Measured left true g r x x' y y') → r.stopped ≡ true → Measured left w f r x x' y y'
+  pub timed-stopped : {f : Forest} {r : Option Size} {x' y' : List ℕ} → Tape src cells p (next_at cells p) f → p < next_at cells p → head_at cells p % 4 ≡ 2 → w ≡ false
+      → ((g : Forest) → Tape src cells (p + 1) (next_at cells p) g → Measured left true g r x x' y y') → (stopped r) ≡ true → Measured left w f r x x' y y'
   unfolding stops
   timed-stopped t l k q m s =
       let i = inner-node t l (λ z. omega arith) in
       let j = m i.kids i.tape in
       stopped-measured j.nodes-kept j.bytes-kept s (rw (i.timed k, q, sym j.stop ∙ s) refl)
 
-  pub timed-measured : {f : Forest} {r : Own} {x' y' x'' y'' : List ℕ} {s : ℕ → Bool} → Tape src cells p (next_at cells p) f → p < next_at cells p → head_at cells p % 4 ≡ 2 → w ≡ false → parsed (bytes_at src cells p) ≡ accepted s
-      → ((g : Forest) → Tape src cells (p + 1) (next_at cells p) g → Measured left true g r x x' y y') → r.stopped ≡ false
-      → Grown x' x'' (λ v. when_in (s v) r.nodes) → Grown y' y'' (λ v. when_in (s v) r.bytes)
+  pub timed-measured : {f : Forest} {r : Option Size} {x' y' x'' y'' : List ℕ} {s : ℕ → Bool} → Tape src cells p (next_at cells p) f → p < next_at cells p → head_at cells p % 4 ≡ 2 → w ≡ false → parsed (bytes_at src cells p) ≡ accepted s
+      → ((g : Forest) → Tape src cells (p + 1) (next_at cells p) g → Measured left true g r x x' y y') → (stopped r) ≡ false
+      → Grown x' x'' (λ v. when_in (s v) (nodes_of r)) → Grown y' y'' (λ v. when_in (s v) (bytes_of r))
       → Measured left w f (owned 0 0) x x'' y y''
   unfolding stops own_nodes own_bytes timed_in
   timed-measured {r = r} {s = s} t l k v e m q a c =
@@ -219,9 +231,9 @@ module _ {src cells : List ℕ} {p left : ℕ} {w : Bool} {x y : List ℕ} where
         own-nodes = refl;
         own-bytes = refl;
         in-nodes = grown-same (λ v. when_in (belongs v b) (own_nodes i.kids) + timed_in own_nodes v i.kids + 0)
-            (λ v g h. let u' : when_in (s v) r.nodes ≡ when_in (belongs v b) (own_nodes i.kids) = ap₂ when_in (sym (ap (belongs v) z.0 ∙ belongs-listed s v g h)) u.own-nodes in omega arith)
+            (λ v g h. let u' : when_in (s v) (nodes_of r) ≡ when_in (belongs v b) (own_nodes i.kids) = ap₂ when_in (sym (ap (belongs v) z.0 ∙ belongs-listed s v g h)) u.own-nodes in omega arith)
             (grown-then u.in-nodes a);
         in_bytes = grown-same (λ v. when_in (belongs v b) (own_bytes i.kids) + timed_in own_bytes v i.kids + 0)
-            (λ v g h. let u' : when_in (s v) r.bytes ≡ when_in (belongs v b) (own_bytes i.kids) = ap₂ when_in (sym (ap (belongs v) z.0 ∙ belongs-listed s v g h)) u.own-bytes in omega arith)
+            (λ v g h. let u' : when_in (s v) (bytes_of r) ≡ when_in (belongs v b) (own_bytes i.kids) = ap₂ when_in (sym (ap (belongs v) z.0 ∙ belongs-listed s v g h)) u.own-bytes in omega arith)
             (grown-then u.in_bytes c);
       }))

@@ -1,5 +1,5 @@
 -- An archive's text opened: read onto the tape and judged, or refused under 10; and a law for each answer.
-use Rattle.std.specs.Prelude.{ℕ, ◌≤◌, min, ◌≡◌, refl, Bool, true, false, List, length}
+use Rattle.std.specs.Prelude.{Result as Tried, Ok, Err, Option, Some, None, MatchOption, ℕ, ◌≤◌, min, ◌≡◌, refl, Bool, true, false, List, length}
 use Rattle.std.proofs.Common.{arith, sym, ◌∙◌, subst}
 use Rattle.xml.specs.Bytes.{Bytes, same}
 use Rattle.xml.specs.BytesLaws.{same-is}
@@ -9,8 +9,6 @@ use Rattle.xml.specs.Tape.{Tape}
 use Rattle.xml.specs.State.{Overfull, Filled, Replied}
 use Rattle.xml.specs.Fits.{version-fits, full-archive}
 use Rattle.xml.specs.Truth.{by-test, not_so}
-use Rattle.xml.specs.declared.Reply.{Reply}
-use Rattle.xml.specs.declared.Reply.TheVariants.{Done as Reads, Wrong, Full}
 use Rattle.keys.specs.Result.{refused, ok, r10}
 use Rattle.keys.specs.KeyList.{KeyList}
 use Rattle.keys.specs.Version.{parsed}
@@ -18,8 +16,11 @@ use Rattle.keys.specs.Table.{Table}
 use Rattle.versions.specs.Archive.{last_version}
 use Rattle.versions.specs.Walk.{forest_legal, archive_read}
 use Rattle.versions.specs.LegalWhole.{whole_last, whole-none, whole-some, legal-few, legal-named}
+use Rattle.keys.specs.Meant.{row_of}
+use Rattle.keys.specs.declared.refusal.Refusal.{Refusal}
 use Rattle.legality.specs.declared.open.Opened.{Opened}
-use Rattle.legality.specs.declared.open.Opened.TheVariants.{Done, Illegal}
+use Rattle.xml.specs.declared.ReadError.{ReadError}
+use Rattle.xml.specs.declared.ReadError.TheVariants.{Wrong, Full}
 
 -- the cells serve to read the text: a cell a byte always does, and 16,384 cells do, whatever the length
 abbrev pub Roomy : Bytes → List ℕ → Type 0
@@ -35,9 +36,9 @@ pub record ArchiveOn (K : KeyList) (src cells : List ℕ) (hi n : ℕ) : Type 0 
   pub last : last_version forest ≡ n
   pub few : hi ≤ 16384
 
-abbrev pub Opens : Bytes → List ℕ → ℕ → List ℕ → List ℕ → Opened → Type 0
-Opens key_text table paths src cells (Done hi n) = (K : KeyList) → Table key_text table paths K → ArchiveOn K src cells hi n
-Opens key_text table paths src cells Illegal = (K : KeyList) → Table key_text table paths K → archive_read K src ≡ refused r10
+abbrev pub Opens : Bytes → List ℕ → ℕ → List ℕ → List ℕ → Tried Opened Refusal → Type 0
+Opens key_text table paths src cells (Ok o) = (K : KeyList) → Table key_text table paths K → ArchiveOn K src cells o.nodes o.versions
+Opens key_text table paths src cells (Err w) = (K : KeyList) → Table key_text table paths K → archive_read K src ≡ refused (row_of w)
 
 -- a short text was read as an archive's onto the tape, whose nodes are few
 pub record ReadOn (src cells : List ℕ) (hi : ℕ) : Type 0 where
@@ -47,19 +48,20 @@ pub record ReadOn (src cells : List ℕ) (hi : ℕ) : Type 0 where
   pub few : hi ≤ 16384
   pub short : length src ≤ 32768
 
--- what is answered of the nodes 0 to hi: the last version of the legal archive that they are, or 0
-abbrev pub Judged : Bytes → List ℕ → ℕ → List ℕ → List ℕ → ℕ → ℕ → Type 0
-Judged key_text table paths src cells hi r = (K : KeyList) → Table key_text table paths K → (f : Forest) → Tape src cells 0 hi f → r ≡ whole_last K f
+-- the number m, or none where it is 0
+abbrev pub Numbered : ℕ → Option ℕ → Type 0
+Numbered m r = MatchOption r (m ≡ 0) (λ n. (n ≡ m) × (1 ≤ n))
 
--- ---- the reader's answers
-module _ (src before cells : List ℕ) {r : Reply} where
-  pub opened-read : {hi : ℕ} → r ≡ Reads hi → Replied true src before cells r → length src ≤ 32768 → ReadOn src cells hi
+-- what is answered of the nodes 0 to hi: the last version of the legal archive that they are, if they are one
+abbrev pub Judged : Bytes → List ℕ → ℕ → List ℕ → List ℕ → ℕ → Option ℕ → Type 0
+Judged key_text table paths src cells hi r = (K : KeyList) → Table key_text table paths K → (f : Forest) → Tape src cells 0 hi f → Numbered (whole_last K f) r
+
+-- ---- the reader's answer
+module _ (src before cells : List ℕ) {r : Tried ℕ ReadError} where
+  pub opened-read : {hi : ℕ} → r ≡ Ok hi → Replied true src before cells r → length src ≤ 32768 → ReadOn src cells hi
   opened-read {hi} e x l =
       let g : Filled true src before cells hi = subst (Replied true src before cells) e x in
       record { forest = g.forest; is = g.is; tape = g.tape; few = omega (arith, g.count, version-fits true src g.forest g.is); short = l }
-
-  pub opened-wrong : {p : ℕ} → r ≡ Wrong p → Replied true src before cells r → read true src ≡ broken p
-  opened-wrong e x = subst (Replied true src before cells) e x
 
 -- ---- a law for each way to refuse a text, or to accept it
 module _ (K : KeyList) (s : Bytes) where
@@ -89,20 +91,22 @@ module _ (K : KeyList) (s : Bytes) where
       at (whole f) e =
           illegal-read f e (not_so (forest_legal K f) (λ h. omega (arith, full-archive s cells f o (omega (arith, o.0)) l e (legal-named K f h), legal-few K f h)))
 
--- the reader's answer that the tape is too short
-pub opened-full : (src before cells : List ℕ) {r : Reply} → r ≡ Full → Replied true src before cells r → Roomy src cells → length src ≤ 32768
+-- the reader's refusals
+pub opened-refused : (src before cells : List ℕ) {r : Tried ℕ ReadError} (e : ReadError) → r ≡ Err e → Replied true src before cells r → Roomy src cells → length src ≤ 32768
     → (K : KeyList) → archive_read K src ≡ refused r10
-opened-full src before cells e x c l K = full-read K src cells (subst (Replied true src before cells) e x) c l
+opened-refused src before cells (Wrong p) e x c l K = broken-read K src (subst (Replied true src before cells) e x)
+opened-refused src before cells Full e x c l K = full-read K src cells (subst (Replied true src before cells) e x) c l
 
 -- ---- what is judged of a text that was read
 module _ {key_text : Bytes} {table : List ℕ} {paths : ℕ} {src cells : List ℕ} {hi : ℕ} (g : ReadOn src cells hi) {b : Bool} (d : b ≡ same src (write g.forest)) where
   pub judged-misspelled : b ≡ false → (K : KeyList) → Table key_text table paths K → archive_read K src ≡ refused r10
   judged-misspelled e K t = misspelled-read K src g.forest g.is (sym d ∙ e)
 
-  pub judged-legal : {r : ℕ} → Judged key_text table paths src cells hi r → b ≡ true → (r ≡ 0 → ⊥) → (K : KeyList) → Table key_text table paths K → ArchiveOn K src cells hi r
-  judged-legal j e z K t =
-      let w = j K t g.forest g.tape in
-      let h = whole-some K g.forest (λ y. z (w ∙ y)) in
+  pub judged-legal : {n : ℕ} → Judged key_text table paths src cells hi (Some n) → b ≡ true → (K : KeyList) → Table key_text table paths K → ArchiveOn K src cells hi n
+  judged-legal {n} j e K t =
+      let w : n ≡ whole_last K g.forest = (j K t g.forest g.tape).0 in
+      let some-version : 1 ≤ n = (j K t g.forest g.tape).1 in
+      let h = whole-some K g.forest (λ y. absurd (omega (arith, w, y, some-version))) in
       record {
         forest = g.forest;
         is = legal-read K src g.forest g.is (sym d ∙ e) h.0;
@@ -113,6 +117,6 @@ module _ {key_text : Bytes} {table : List ℕ} {paths : ℕ} {src cells : List �
         few = g.few;
       }
 
-pub judged-illegal : {key_text : Bytes} {table : List ℕ} {paths : ℕ} {src cells : List ℕ} {hi : ℕ} {r : ℕ} → ReadOn src cells hi → Judged key_text table paths src cells hi r
-    → r ≡ 0 → (K : KeyList) → Table key_text table paths K → archive_read K src ≡ refused r10
-judged-illegal {src = src} g j z K t = illegal-read K src g.forest g.is (whole-none K g.forest (sym (j K t g.forest g.tape) ∙ z))
+pub judged-illegal : {key_text : Bytes} {table : List ℕ} {paths : ℕ} {src cells : List ℕ} {hi : ℕ} → ReadOn src cells hi → Judged key_text table paths src cells hi None
+    → (K : KeyList) → Table key_text table paths K → archive_read K src ≡ refused r10
+judged-illegal {src = src} g j K t = illegal-read K src g.forest g.is (whole-none K g.forest (j K t g.forest g.tape))

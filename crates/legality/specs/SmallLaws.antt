@@ -2,7 +2,7 @@
 -- has added up (Measured.antt) are within them.
 use Prim.Native.Nat.{ℕ, zero, suc, ◌+◌, ◌-◌, ◌≤◌, ◌<◌}
 use native.Mathlib.Omega.{arith}
-use Rattle.std.specs.Prelude.{◌≡◌, Bool, true, ◌&&◌, ◌||◌, List, [], length, replicate}
+use Rattle.std.specs.Prelude.{Option, ◌≡◌, Bool, true, ◌&&◌, ◌||◌, List, [], length, replicate}
 use Rattle.std.proofs.Math.Path.{refl, ap, ap₂}
 use Rattle.std.proofs.Common.{sym, ◌∙◌}
 use Rattle.std.proofs.Math.Bool.{false, not}
@@ -23,10 +23,10 @@ use Rattle.versions.specs.Archive.{pick}
 use Rattle.versions.specs.Walk.{siblings_legal, all_small}
 use Rattle.versions.specs.Sizes.{own_nodes, own_bytes, timed_in, Nested, nodes-pick, bytes-pick}
 use Rattle.versions.specs.Grown.{Cells}
-use Rattle.legality.specs.Measured.{stops, few-nodes, few_bytes, Room, Sums, Measured}
+use Rattle.legality.specs.Measured.{stopped, nodes_of, bytes_of, stops, few-nodes, few_bytes, Room, Sums, Measured}
 use Rattle.legality.specs.Layered.{Layered, siblings-layered, layered-nested, layered-read, layered-stops, depth-pick, layered-reached}
 use Rattle.versions.specs.Small.{LegalInside, is_small}
-use Rattle.legality.specs.declared.sizes.Own.{Own}
+use Rattle.legality.specs.declared.bounds.Size.{Size}
 
 -- ---- a test of the n versions from i on
 module _ (P : ℕ → Bool) where
@@ -137,12 +137,12 @@ module _ {src cells : List ℕ} {lo hi n : ℕ} (w : LegalInside src cells lo hi
         bytes-room = λ v a c. omega (arith, zeros v (omega arith));
       }
 
-  module _ {r : Own} {a b : List ℕ} (m : (f : Forest) → Tape src cells lo hi f → Measured 16 false f r noughts a noughts b) where
-    pub inside-stopped : r.stopped ≡ true → (f : Forest) → Tape src cells lo hi f → false ≡ all_small n f
+  module _ {r : Option Size} {a b : List ℕ} (m : (f : Forest) → Tape src cells lo hi f → Measured 16 false f r noughts a noughts b) where
+    pub inside-stopped : (stopped r) ≡ true → (f : Forest) → Tape src cells lo hi f → false ≡ all_small n f
     inside-stopped e f t =
         rw (tape-one t w.tape) (sym (small-stopped w.keys n w.some-there w.not_more w.forest w.legal (sym (m w.forest w.tape).stop ∙ e)))
 
-    pub inside-cells : r.stopped ≡ false → Cells a 1 r.nodes × Cells b 1 r.bytes
+    pub inside-cells : (stopped r) ≡ false → Cells a 1 (nodes_of r) × Cells b 1 (bytes_of r)
     inside-cells e =
         let s = (m w.forest w.tape).sums e in
         let h = w.few in (
@@ -150,6 +150,6 @@ module _ {src cells : List ℕ} {lo hi n : ℕ} (w : LegalInside src cells lo hi
           record { count = s.in_bytes.count ∙ noughts-count; room = λ v l k. omega (arith, zeros v (omega arith), s.own-bytes, s.in_bytes.each v l k, few_bytes v w.tape) },
         )
 
-    pub inside-small : r.stopped ≡ false → (f : Forest) → Tape src cells lo hi f → all (is_small a b r.nodes r.bytes) (up_from 1 n) ≡ all_small n f
+    pub inside-small : (stopped r) ≡ false → (f : Forest) → Tape src cells lo hi f → all (is_small a b (nodes_of r) (bytes_of r)) (up_from 1 n) ≡ all_small n f
     inside-small e f t =
-        rw (tape-one t w.tape) (sym (small_is w.keys n w.some-there w.not_more w.forest w.legal r.nodes r.bytes a b (sym (m w.forest w.tape).stop ∙ e) ((m w.forest w.tape).sums e)))
+        rw (tape-one t w.tape) (sym (small_is w.keys n w.some-there w.not_more w.forest w.legal (nodes_of r) (bytes_of r) a b (sym (m w.forest w.tape).stop ∙ e) ((m w.forest w.tape).sums e)))

@@ -18,7 +18,7 @@ use crate::hash::hash;
 use crate::times::take_at;
 use timestamp::Timestamp;
 use xml::compare::{same_bytes, same_nodes};
-use xml::tape::view_at;
+use xml::tape::Document;
 
 // A node of this kind, named by src[a..e], is a `T` or an element with that name.
 pub fn is_timed(src: &[u8], kind: u32, a: usize, e: usize) -> bool
@@ -29,52 +29,41 @@ pub fn is_timed(src: &[u8], kind: u32, a: usize, e: usize) -> bool
         return true;
     }
     if kind == 1 {
-        return same_bytes(src, a, e, b"T", 0, 1);
+        return same_bytes(&src[a..e], b"T");
     }
     false
 }
 
 // No node lo to hi is one.
-pub fn is_untimed(src: &[u8], tape: &[u32], lo: usize, hi: usize) -> bool
-    requires { Valid src.now tape.now lo hi }
-    ensures { (f : Forest) → Tape src.now tape.now lo hi f → result ≡ untimed f }
+pub fn is_untimed(doc: &Document, lo: usize, hi: usize) -> bool
+    requires { Valid doc.now.src.now doc.now.tape.now lo hi }
+    ensures { (f : Forest) → Tape doc.now.src.now doc.now.tape.now lo hi f → result ≡ untimed f }
 {
-    let mut i = lo;
-    while i < hi {
-        let v = view_at(tape, i);
-        if is_timed(src, v.kind, v.start, v.end) {
+    for i in lo..hi {
+        let v = doc.view(i);
+        if is_timed(doc.src, v.kind, v.start, v.end) {
             return false;
         }
-        i += 1;
     }
     true
 }
 
 // The nodes a to e, with the hash h, are the nodes lo to hi, with the hash x.
-fn same_content(
-    src: &[u8],
-    tape: &[u32],
-    a: usize,
-    e: usize,
-    h: u16,
-    lo: usize,
-    hi: usize,
-    x: u16,
-) -> bool
-    requires { Valid src.now tape.now a e × Valid src.now tape.now lo hi × HashOf src.now tape.now a e h × HashOf src.now tape.now lo hi x }
-    ensures { (k g : Forest) → Tape src.now tape.now a e k → Tape src.now tape.now lo hi g
+fn same_content(doc: &Document, a: usize, e: usize, h: u16, lo: usize, hi: usize, x: u16) -> bool
+    requires { Valid doc.now.src.now doc.now.tape.now a e × Valid doc.now.src.now doc.now.tape.now lo hi × HashOf doc.now.src.now doc.now.tape.now a e h × HashOf doc.now.src.now doc.now.tape.now lo hi x }
+    ensures { (k g : Forest) → Tape doc.now.src.now doc.now.tape.now a e k → Tape doc.now.src.now doc.now.tape.now lo hi g
         → result ≡ same_forest k g }
 {
     if x != h {
         return false;
     }
-    same_nodes(src, tape, a, e, src, tape, lo, hi)
+    same_nodes(doc, a, e, doc, lo, hi)
 }
 
 // The nodes a to e, with the hash h, are what one of the nodes lo to hi holds; the hashes of what those hold are the first of `hashes`.
+// The nodes are linked by `next`, so no range counts them.
 fn is_repeated(
-    src: &[u8],
-    tape: &[u32],
+    doc: &Document,
     lo: usize,
     hi: usize,
     a: usize,
@@ -82,17 +71,17 @@ fn is_repeated(
     hashes: &[u16],
     h: u16,
 ) -> bool
-    requires { Valid src.now tape.now lo hi × Valid src.now tape.now a e × HashOf src.now tape.now a e h
-        × Notes src.now tape.now lo hi hashes.now 0 }
-    ensures { (d k : Forest) → Tape src.now tape.now lo hi d → Tape src.now tape.now a e k
+    requires { Valid doc.now.src.now doc.now.tape.now lo hi × Valid doc.now.src.now doc.now.tape.now a e × HashOf doc.now.src.now doc.now.tape.now a e h
+        × Notes doc.now.src.now doc.now.tape.now lo hi hashes.now 0 }
+    ensures { (d k : Forest) → Tape doc.now.src.now doc.now.tape.now lo hi d → Tape doc.now.src.now doc.now.tape.now a e k
         → result ≡ repeats k d }
 {
     let mut p = lo;
     let mut j = 0usize;
     while p < hi {
-        let v = view_at(tape, p);
+        let v = doc.view(p);
         let x = hashes[j];
-        if same_content(src, tape, a, e, h, p + 1, v.next, x) {
+        if same_content(doc, a, e, h, p + 1, v.next, x) {
             return true;
         }
         p = v.next;
@@ -121,8 +110,7 @@ fn set_seen(seen: &mut [u64; 256], h: u16)
 
 // The nodes a to e, with the hash h, have no `T`, and none of the nodes lo to hi holds the same; the hashes of what those hold are set in `seen`.
 fn content_legal(
-    src: &[u8],
-    tape: &[u32],
+    doc: &Document,
     lo: usize,
     hi: usize,
     a: usize,
@@ -131,50 +119,45 @@ fn content_legal(
     seen: &[u64; 256],
     h: u16,
 ) -> bool
-    requires { Valid src.now tape.now lo hi × Valid src.now tape.now a e × HashOf src.now tape.now a e h
-        × Notes src.now tape.now lo hi hashes.now 0 × Seen src.now tape.now lo hi seen.now }
-    ensures { (d k : Forest) → Tape src.now tape.now lo hi d → Tape src.now tape.now a e k
+    requires { Valid doc.now.src.now doc.now.tape.now lo hi × Valid doc.now.src.now doc.now.tape.now a e × HashOf doc.now.src.now doc.now.tape.now a e h
+        × Notes doc.now.src.now doc.now.tape.now lo hi hashes.now 0 × Seen doc.now.src.now doc.now.tape.now lo hi seen.now }
+    ensures { (d k : Forest) → Tape doc.now.src.now doc.now.tape.now lo hi d → Tape doc.now.src.now doc.now.tape.now a e k
         → result ≡ (untimed k && not (repeats k d)) }
 {
-    if !is_untimed(src, tape, a, e) {
+    if !is_untimed(doc, a, e) {
         return false;
     }
     if !is_seen(seen, h) {
         return true;
     }
-    !is_repeated(src, tape, lo, hi, a, e, hashes, h)
+    !is_repeated(doc, lo, hi, a, e, hashes, h)
 }
 
 // The nodes lo to hi are two or more contents, each in a `T`, that share the versions `times`: each takes its own from those that are left.
-fn branches_legal(
-    src: &[u8],
-    tape: &[u32],
-    lo: usize,
-    hi: usize,
-    n: usize,
-    times: Timestamp,
-) -> bool
-    requires { Valid src.now tape.now lo hi }
-    ensures { (f : Forest) → Tape src.now tape.now lo hi f → Only n (set_of times.words)
+fn branches_legal(doc: &Document, lo: usize, hi: usize, n: usize, times: Timestamp) -> bool
+    requires { Valid doc.now.src.now doc.now.tape.now lo hi }
+    ensures { (f : Forest) → Tape doc.now.src.now doc.now.tape.now lo hi f → Only n (set_of times.words)
         → result ≡ judged n (set_of times.words) empty_set 0 0 end f }
 {
-    let mut left = times.words;
+    let mut left = times;
     let mut p = lo;
     let mut count = 0usize;
     let mut first = 0usize;
     let mut hashes = [0u16; 1000];
     let mut seen = [0u64; 256];
     while p < hi {
-        let v = view_at(tape, p);
+        let v = doc.view(p);
         if v.kind != 2 {
             return false;
         }
-        let start = take_at(&mut left, src, v.start, v.end);
+        let Some(start) = take_at(&mut left, doc.src, v.start, v.end) else {
+            return false;
+        };
         if start <= first {
             return false;
         }
-        let h = hash(src, tape, p + 1, v.next) as u16;
-        if !content_legal(src, tape, lo, p, p + 1, v.next, &hashes, &seen, h) {
+        let h = hash(doc, p + 1, v.next) as u16;
+        if !content_legal(doc, lo, p, p + 1, v.next, &hashes, &seen, h) {
             return false;
         }
         hashes[count] = h;
@@ -186,31 +169,24 @@ fn branches_legal(
     if count < 2 {
         return false;
     }
-    Timestamp { words: left }.is_empty()
+    left.is_empty()
 }
 
 // What a frontier that stands in the versions `times` holds.
-pub fn front_legal(
-    src: &[u8],
-    tape: &[u32],
-    lo: usize,
-    hi: usize,
-    n: usize,
-    times: Timestamp,
-) -> bool
-    requires { Valid src.now tape.now lo hi × (n ≤ 999) }
-    ensures { (f : Forest) (t : Times) → Tape src.now tape.now lo hi f → Only n (set_of times.words)
+pub fn front_legal(doc: &Document, lo: usize, hi: usize, n: usize, times: Timestamp) -> bool
+    requires { Valid doc.now.src.now doc.now.tape.now lo hi × (n ≤ 999) }
+    ensures { (f : Forest) (t : Times) → Tape doc.now.src.now doc.now.tape.now lo hi f → Only n (set_of times.words)
         → listed n (set_of times.words) ≡ t → result ≡ front_legal n t f }
 {
     if hi <= lo {
         return true;
     }
-    let v = view_at(tape, lo);
+    let v = doc.view(lo);
     if v.kind == 2 {
-        if are_few(src, tape, lo, hi) {
-            return few_legal(src, tape, lo, hi, n, times);
+        if are_few(doc, lo, hi) {
+            return few_legal(doc, lo, hi, n, times);
         }
-        return branches_legal(src, tape, lo, hi, n, times);
+        return branches_legal(doc, lo, hi, n, times);
     }
-    is_untimed(src, tape, lo, hi)
+    is_untimed(doc, lo, hi)
 }

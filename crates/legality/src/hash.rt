@@ -6,7 +6,7 @@ ghost use Rattle.xml.specs.Tape.{Valid};
 ghost use Rattle.versions.specs.Hashes.{mixed, folded, hash_node, HashOf};
 ghost use Rattle.legality.specs.Folded.{weighed};
 
-use xml::tape::view_at;
+use xml::tape::Document;
 use xml::text::{plain_end, sign_at};
 
 // A byte folded into a hash.
@@ -50,11 +50,9 @@ fn fold_bytes(src: &[u8], a: usize, e: usize, start: u32) -> u32
     requires { (a ≤ e) × (e ≤ length src.now) × (start < 65536) }
     ensures { result ≡ folded start (slice a e src.now) }
 {
-    let mut i = a;
     let mut h = start;
-    while i < e {
-        h = mix(h, src[i]);
-        i += 1;
+    for b in &src[a..e] {
+        h = mix(h, *b);
     }
     h
 }
@@ -104,16 +102,14 @@ fn hash_node(src: &[u8], kind: u32, a: usize, e: usize, h: u32) -> u32
 }
 
 // The hash of the nodes lo to hi.
-pub fn hash(src: &[u8], tape: &[u32], lo: usize, hi: usize) -> u32
-    requires { Valid src.now tape.now lo hi }
-    ensures { HashOf src.now tape.now lo hi result }
+pub fn hash(doc: &Document, lo: usize, hi: usize) -> u32
+    requires { Valid doc.now.src.now doc.now.tape.now lo hi }
+    ensures { HashOf doc.now.src.now doc.now.tape.now lo hi result }
 {
     let mut h = 0;
-    let mut i = lo;
-    while i < hi {
-        let v = view_at(tape, i);
-        h = hash_node(src, v.kind, v.start, v.end, h);
-        i += 1;
+    for i in lo..hi {
+        let v = doc.view(i);
+        h = hash_node(doc.src, v.kind, v.start, v.end, h);
     }
     h
 }

@@ -10,23 +10,24 @@ ghost use Rattle.versions.specs.Untimed.{timed_node};
 ghost use Rattle.versions.specs.NodeCount.{weight as counted};
 ghost use Rattle.versions.specs.OuterTimes.{outer_last};
 ghost use Rattle.versions.specs.LegalWhole.{outer_of, inside_legal};
-ghost use Rattle.legality.specs.Opened.{ReadOn, Judged, Opens, Roomy};
+ghost use Rattle.legality.specs.Opened.{Numbered, ReadOn, Judged, Opens, Roomy};
 
 use crate::front::is_timed;
 use crate::legal::siblings_legal;
 use crate::sizes::all_small;
 use crate::times::times_at;
+use keys::places::KeyTable;
+use keys::refusal::Refusal;
 use timestamp::Timestamp;
-use xml::Reply;
 use xml::reader::read;
 use xml::spelling::spelled;
-use xml::tape::view_at;
+use xml::tape::Document;
 
-// The nodes of a legal archive, and its last version's number; or the text is none (10).
+// How many nodes a legal archive has, and versions.
 #[derive(Clone, Copy)]
-pub enum Opened {
-    Done(usize, usize),
-    Illegal,
+pub struct Opened {
+    pub nodes: usize,
+    pub versions: usize,
 }
 
 // A node of this kind, named by src[a..e], counts for one, unless it is a `T` or an element with that name.
@@ -41,16 +42,14 @@ fn weight(src: &[u8], kind: u32, a: usize, e: usize) -> usize
 }
 
 // How many of the nodes lo to hi count.
-pub fn count_nodes(src: &[u8], tape: &[u32], lo: usize, hi: usize) -> usize
-    requires { Valid src.now tape.now lo hi }
-    ensures { (f : Forest) → Tape src.now tape.now lo hi f → result ≡ nodes f }
+pub fn count_nodes(doc: &Document, lo: usize, hi: usize) -> usize
+    requires { Valid doc.now.src.now doc.now.tape.now lo hi }
+    ensures { (f : Forest) → Tape doc.now.src.now doc.now.tape.now lo hi f → result ≡ nodes f }
 {
     let mut n = 0;
-    let mut i = lo;
-    while i < hi {
-        let v = view_at(tape, i);
-        n += weight(src, v.kind, v.start, v.end);
-        i += 1;
+    for i in lo..hi {
+        let v = doc.view(i);
+        n += weight(doc.src, v.kind, v.start, v.end);
     }
     n
 }
@@ -60,106 +59,93 @@ fn outer_last(src: &[u8], a: usize, e: usize) -> usize
     requires { (a ≤ e) × (e ≤ length src.now) }
     ensures { result ≡ outer_last (slice a e src.now) }
 {
-    let read = times_at(src, a, e);
-    if !read.ok {
+    let Some(set) = times_at(src, a, e) else {
         return 0;
-    }
-    let set = read.stamp;
-    let gaps = set.complement();
-    let n = gaps.next(1) - 1;
+    };
+    let Some(gap) = set.complement().next(1) else {
+        return 0;
+    };
+    let n = gap - 1;
     if !set.same(Timestamp::up_to(n)) {
         return 0;
     }
     n
 }
 
-// The n of the outer `T` that the nodes 0 to hi are, or 0 if they are none.
-fn outer_of(src: &[u8], tape: &[u32], hi: usize) -> usize
-    requires { Valid src.now tape.now 0 hi }
-    ensures { (f : Forest) → Tape src.now tape.now 0 hi f → result ≡ outer_of f }
+// The n of the outer `T` that the nodes 0 to hi are, if they are one.
+fn outer_of(doc: &Document, hi: usize) -> Option<usize>
+    requires { Valid doc.now.src.now doc.now.tape.now 0 hi }
+    ensures { (f : Forest) → Tape doc.now.src.now doc.now.tape.now 0 hi f → Numbered (outer_of f) result }
 {
     if hi == 0 {
-        return 0;
+        return None;
     }
-    let v = view_at(tape, 0);
+    let v = doc.view(0);
     if v.kind != 2 {
-        return 0;
+        return None;
     }
     if v.next != hi {
-        return 0;
+        return None;
     }
-    outer_last(src, v.start, v.end)
+    let n = outer_last(doc.src, v.start, v.end);
+    if n == 0 {
+        return None;
+    }
+    Some(n)
 }
 
 // The nodes 1 to hi are the inside of a legal archive of n versions.
-fn inside_legal(
-    text: &[u8],
-    table: &[u32],
-    paths: usize,
-    src: &[u8],
-    tape: &[u32],
-    hi: usize,
-    n: usize,
-) -> bool
-    requires { Tabled text.now table.now paths × Valid src.now tape.now 1 hi × (hi ≤ 16384) × (1 ≤ n) × (n ≤ 999) }
-    ensures { (K : KeyList) → Table text.now table.now paths K → (k : Forest)
-        → Tape src.now tape.now 1 hi k → result ≡ inside_legal K n k }
+fn inside_legal(keys: &KeyTable, doc: &Document, hi: usize, n: usize) -> bool
+    requires { Tabled keys.now.text.now keys.now.table.now keys.now.paths × Valid doc.now.src.now doc.now.tape.now 1 hi × (hi ≤ 16384) × (1 ≤ n) × (n ≤ 999) }
+    ensures { (K : KeyList) → Table keys.now.text.now keys.now.table.now keys.now.paths K → (k : Forest)
+        → Tape doc.now.src.now doc.now.tape.now 1 hi k → result ≡ inside_legal K n k }
 {
-    if 1024 < count_nodes(src, tape, 1, hi) {
+    if 1024 < count_nodes(doc, 1, hi) {
         return false;
     }
     let all = Timestamp::up_to(n);
-    if !siblings_legal(text, table, paths, 128, src, tape, 1, hi, n, all) {
+    if !siblings_legal(keys, 128, doc, 1, hi, n, all) {
         return false;
     }
-    all_small(src, tape, 1, hi, n)
+    all_small(doc, 1, hi, n)
 }
 
-// The last version of the legal archive that the nodes 0 to hi are, or 0 if they are none.
-fn legal_whole(
-    text: &[u8],
-    table: &[u32],
-    paths: usize,
-    src: &[u8],
-    tape: &[u32],
-    hi: usize,
-) -> usize
-    requires { Tabled text.now table.now paths × Valid src.now tape.now 0 hi × (hi ≤ 16384) }
-    ensures { Judged text.now table.now paths src.now tape.now hi result }
+// The last version of the legal archive that the nodes 0 to hi are, if they are one.
+fn legal_whole(keys: &KeyTable, doc: &Document, hi: usize) -> Option<usize>
+    requires { Tabled keys.now.text.now keys.now.table.now keys.now.paths × Valid doc.now.src.now doc.now.tape.now 0 hi × (hi ≤ 16384) }
+    ensures { Judged keys.now.text.now keys.now.table.now keys.now.paths doc.now.src.now doc.now.tape.now hi result }
 {
-    let n = outer_of(src, tape, hi);
-    if n == 0 {
-        return 0;
+    let n = outer_of(doc, hi)?;
+    if !inside_legal(keys, doc, hi, n) {
+        return None;
     }
-    if !inside_legal(text, table, paths, src, tape, hi, n) {
-        return 0;
-    }
-    n
+    Some(n)
 }
 
 // Judges an archive's text that was read onto the tape.
-fn judge(text: &[u8], table: &[u32], paths: usize, src: &[u8], tape: &[u32], hi: usize) -> Opened
-    requires { Tabled text.now table.now paths × ReadOn src.now tape.now hi }
-    ensures { Opens text.now table.now paths src.now tape.now result }
+fn judge(keys: &KeyTable, doc: &Document, hi: usize) -> Result<Opened, Refusal>
+    requires { Tabled keys.now.text.now keys.now.table.now keys.now.paths × ReadOn doc.now.src.now doc.now.tape.now hi }
+    ensures { Opens keys.now.text.now keys.now.table.now keys.now.paths doc.now.src.now doc.now.tape.now result }
 {
-    if !spelled(src, tape, hi) {
-        return Opened::Illegal;
+    if !spelled(doc, hi) {
+        return Err(Refusal::ArchiveIllegal);
     }
-    let n = legal_whole(text, table, paths, src, tape, hi);
-    if n == 0 {
-        return Opened::Illegal;
+    match legal_whole(keys, doc, hi) {
+        Some(n) => Ok(Opened {
+            nodes: hi,
+            versions: n,
+        }),
+        None => Err(Refusal::ArchiveIllegal),
     }
-    Opened::Done(hi, n)
 }
 
 // Reads an archive's text onto the work cells, and judges it.
-pub fn open(text: &[u8], table: &[u32], paths: usize, src: &[u8], work: &mut [u32]) -> Opened
-    requires { Tabled text.now table.now paths × (length src.now ≤ 32768) × Roomy src.now work.old }
-    ensures { Opens text.now table.now paths src.now work.new result }
+pub fn open(keys: &KeyTable, src: &[u8], work: &mut [u32]) -> Result<Opened, Refusal>
+    requires { Tabled keys.now.text.now keys.now.table.now keys.now.paths × (length src.now ≤ 32768) × Roomy src.now work.old }
+    ensures { Opens keys.now.text.now keys.now.table.now keys.now.paths src.now work.new result }
 {
     match read(src, true, work) {
-        Reply::Done(hi) => judge(text, table, paths, src, work, hi),
-        Reply::Wrong(p) => Opened::Illegal,
-        Reply::Full => Opened::Illegal,
+        Ok(hi) => judge(keys, &Document { src, tape: work }, hi),
+        Err(_) => Err(Refusal::ArchiveIllegal),
     }
 }

@@ -1,94 +1,66 @@
 // The longest history line: short texts, the borders at 10, 100 and 999, outputs, refusals, and an archive of 999 versions with such a history.
-ghost use Rattle.std.specs.Prelude.{◌≤◌, length};
+use crate::calls::{Bench, Out};
+use crate::text::Text;
+use files::written;
+use std::io::{Cursor, Write};
 
-use crate::calls::{gives_history, gives_longest};
-use archive::longest::longest_history;
-use files::{put, within};
-
-// Texts over few versions.
-fn short_lines(rt: &HostRuntime, out: &mut [u8], work: &mut [u32]) {
-    gives_longest(rt, b"longest of 1", 1, 32768, out, work);
-    gives_longest(rt, b"longest of 2", 2, 32768, out, work);
-    gives_longest(rt, b"longest of 3", 3, 32768, out, work);
+// The texts: over few versions, at the borders of two and three digits, and the last ones.
+fn texts(bench: &mut Bench, out: &mut Out) {
+    for (name, of) in [
+        ("longest of 1", 1),
+        ("longest of 2", 2),
+        ("longest of 3", 3),
+        ("longest of 9", 9),
+        ("longest of 10", 10),
+        ("longest of 35", 35),
+        ("longest of 99", 99),
+        ("longest of 100", 100),
+        ("longest of 101", 101),
+        ("longest of 102", 102),
+        ("longest of 998", 998),
+        ("longest of 999", 999),
+    ] {
+        bench.gives_longest(name, of, out);
+    }
 }
 
-// At the border of two digits, and past it.
-fn lines_of_tens(rt: &HostRuntime, out: &mut [u8], work: &mut [u32]) {
-    gives_longest(rt, b"longest of 9", 9, 32768, out, work);
-    gives_longest(rt, b"longest of 10", 10, 32768, out, work);
-    gives_longest(rt, b"longest of 35", 35, 32768, out, work);
-}
-
-// At the border of three digits.
-fn lines_of_hundreds(rt: &HostRuntime, out: &mut [u8], work: &mut [u32]) {
-    gives_longest(rt, b"longest of 99", 99, 32768, out, work);
-    gives_longest(rt, b"longest of 100", 100, 32768, out, work);
-    gives_longest(rt, b"longest of 101", 101, 32768, out, work);
-    gives_longest(rt, b"longest of 102", 102, 32768, out, work);
-}
-
-// The last ones, with outputs of exactly the text's length and one byte short.
-fn last_lines(rt: &HostRuntime, out: &mut [u8], work: &mut [u32]) {
-    gives_longest(rt, b"longest of 998", 998, 32768, out, work);
-    gives_longest(rt, b"longest of 999", 999, 32768, out, work);
-    gives_longest(rt, b"longest exact", 999, 2591, out, work);
-    gives_longest(rt, b"longest short", 999, 2590, out, work);
+// Outputs of exactly the text's length and one byte short.
+fn line_outputs(bench: &mut Bench, out: &mut Out) {
+    bench.gives_longest("longest exact", 999, &mut out[..2591]);
+    bench.gives_longest("longest short", 999, &mut out[..2590]);
 }
 
 // 11, also where nothing would fit; 1, whatever the number.
-fn line_refusals(rt: &HostRuntime, out: &mut [u8], work: &mut [u32]) {
+fn line_refusals(bench: &mut Bench, out: &mut Out) {
     let mut few = [0u32; 16383];
-    gives_longest(rt, b"longest of 0", 0, 0, out, work);
-    gives_longest(rt, b"longest of 1,000", 1000, 0, out, work);
-    gives_longest(rt, b"longest refusal 1", 0, 32768, out, &mut few);
-}
-
-// The texts.
-fn texts(rt: &HostRuntime, out: &mut [u8], work: &mut [u32]) {
-    short_lines(rt, out, work);
-    lines_of_tens(rt, out, work);
-    lines_of_hundreds(rt, out, work);
-    last_lines(rt, out, work);
+    bench.gives_longest("longest of 0", 0, &mut []);
+    bench.gives_longest("longest of 1,000", 1000, &mut []);
+    bench
+        .working_in(&mut few)
+        .gives_longest("longest refusal 1", 0, out);
 }
 
 // The archive of 999 versions of which those of the longest line have a root, and the others are vacant.
-fn put_lit(text: &mut [u8], out: &mut [u8], work: &mut [u32]) -> usize
-    ensures { result ≤ length text.new }
-{
-    let n = within(longest_history(999, out, work).length, out);
-    let open = put(text, 0, b"<T t=\"1-999\"><T t=\"");
-    let set = put(text, open, &out[..n]);
-    put(text, set, b"\"><s></s></T></T>")
+fn lit(bench: &mut Bench, out: &mut Out) -> Text {
+    let mut text = Cursor::new([0; 16384]);
+    let _ = text.write_all(b"<T t=\"1-999\"><T t=\"");
+    let _ = text.write_all(bench.gives_longest_unseen(999, out));
+    let _ = text.write_all(b"\"><s></s></T></T>");
+    text
 }
 
 // An archive's history that is the longest, with an output of exactly its length and one byte short.
-fn histories(rt: &HostRuntime, keys: &[u8], text: &mut [u8], out: &mut [u8], work: &mut [u32]) {
-    let n = put_lit(text, out, work);
-    gives_history(
-        rt,
-        b"longest history",
-        keys,
-        &text[..n],
-        b"/s",
-        2591,
-        out,
-        work,
-    );
-    gives_history(
-        rt,
-        b"longest history short",
-        keys,
-        &text[..n],
-        b"/s",
-        2590,
-        out,
-        work,
-    );
+fn histories(bench: &mut Bench, out: &mut Out) {
+    let text = lit(bench, out);
+    let archive = written(&text);
+    bench.gives_history("longest history", archive, "/s", &mut out[..2591]);
+    bench.gives_history("longest history short", archive, "/s", &mut out[..2590]);
 }
 
 // The longest line.
-pub fn lines(rt: &HostRuntime, keys: &[u8], text: &mut [u8], out: &mut [u8], work: &mut [u32]) {
-    texts(rt, out, work);
-    line_refusals(rt, out, work);
-    histories(rt, keys, text, out, work);
+pub fn lines(bench: &mut Bench, out: &mut Out) {
+    texts(bench, out);
+    line_outputs(bench, out);
+    line_refusals(bench, out);
+    histories(bench, out);
 }

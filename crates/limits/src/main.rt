@@ -13,39 +13,36 @@ mod text;
 mod vacant;
 mod version;
 
+use calls::{Bench, Out};
+
 // The limits.
-fn limit(
-    rt: &HostRuntime,
-    keys: &[u8],
-    text: &mut [u8],
-    a: &mut [u8],
-    b: &mut [u8],
-    work: &mut [u32],
-) {
-    size::sizes(rt, keys, text, a, work);
-    output::outputs(rt, keys, a, work);
-    version::versions(rt, keys, a, b, work);
+fn limit(bench: &mut Bench, a: &mut Out, b: &mut Out) {
+    size::sizes(bench, a);
+    output::outputs(bench, a);
+    version::versions(bench, a, b);
 }
 
 // The refusals.
-fn refuse(rt: &HostRuntime, keys: &[u8], text: &mut [u8], a: &mut [u8], work: &mut [u32]) {
-    refusal::key_refusals(rt, keys, text, work);
-    refusal::version_refusals(rt, keys, text, a, work);
-    refusal::archive_refusals(rt, keys, a, work);
+fn refuse(bench: &mut Bench, out: &mut Out) {
+    refusal::key_refusals(bench);
+    refusal::version_refusals(bench, out);
+    refusal::archive_refusals(bench, out);
 }
 
 fn main(rt: HostRuntime) {
-    let rt = &rt;
-    let keys = b"(/, (s, {}))\n(/s, (f, {}))\n(/s, (k, {p}))\n";
-    let mut text = [0u8; 16384];
     let mut a = [0u8; 32768];
     let mut b = [0u8; 32768];
     let mut work = [0u32; 16384];
-    limit(rt, keys, &mut text, &mut a, &mut b, &mut work);
-    refuse(rt, keys, &mut text, &mut a, &mut work);
-    size::archive_nodes(rt, keys, &mut text, &mut a, &mut b, &mut work);
-    mark::marks(rt, keys, &mut a, &mut work);
-    vacant::vacancies(rt, keys, &mut text, &mut a, &mut work);
-    longest::lines(rt, keys, &mut text, &mut a, &mut work);
-    line_end::line_ends(rt, keys, &mut text, &mut a, &mut b, &mut work);
+    let mut bench = Bench {
+        rt: &rt,
+        keys: b"(/, (s, {}))\n(/s, (f, {}))\n(/s, (k, {p}))\n",
+        work: &mut work,
+    };
+    limit(&mut bench, &mut a, &mut b);
+    refuse(&mut bench, &mut a);
+    size::archive_nodes(&mut bench, &mut a, &mut b);
+    mark::marks(&mut bench, &mut a);
+    vacant::vacancies(&mut bench, &mut a);
+    longest::lines(&mut bench, &mut a);
+    line_end::line_ends(&mut bench, &mut a, &mut b);
 }

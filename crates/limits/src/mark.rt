@@ -1,286 +1,112 @@
 // Marks: a full table, names, outputs, and each refusal of a table.
-use crate::calls::{finds, sets, steps_back_marked, steps_back_to_mark};
-use archive::by_value::set_mark;
+use crate::calls::{Bench, Out};
 use marks::Table;
 use marks::bytes::table_from;
 use marks::entries::blank;
 
 // A table of so many marks, of versions 2 and 1 by turns; the name of each is a letter.
-fn marked(keys: &[u8], archive: &[u8], count: usize, work: &mut [u32]) -> Table {
+fn marked(bench: &mut Bench, archive: &[u8], count: usize) -> Table {
     let letters = b"ABCDEFGHIJKLMNOPQRSTUVWXYZabcdef";
     let mut t = blank(32);
-    let mut at = 0;
-    while at < 32 {
-        if at == count {
-            return t;
-        }
-        let name = [letters[at]];
-        let m = set_mark(keys, archive, t, &name, 2 - at % 2, work);
-        t = m.table;
-        at += 1;
+    for (at, letter) in letters.iter().take(count).enumerate() {
+        t = bench.sets_unseen(archive, t, &[*letter], 2 - at % 2);
     }
     t
 }
 
 // Setting in a full table.
-fn full_sets(rt: &HostRuntime, keys: &[u8], two: &[u8], full: Table, work: &mut [u32]) {
-    sets(rt, b"refusal 16", keys, two, full, b"g", 1, work);
-    sets(rt, b"full, and no version", keys, two, full, b"g", 0, work);
-    sets(rt, b"full, and held", keys, two, full, b"A", 1, work);
+fn full_sets(bench: &mut Bench, two: &[u8], full: Table) {
+    bench.sets("refusal 16", two, full, "g", 1);
+    bench.sets("full, and no version", two, full, "g", 0);
+    bench.sets("full, and held", two, full, "A", 1);
 }
 
 // Finding in one.
-fn full_finds(rt: &HostRuntime, keys: &[u8], two: &[u8], full: Table, work: &mut [u32]) {
-    finds(rt, b"find the first", keys, two, full, b"A", work);
-    finds(rt, b"find the last", keys, two, full, b"f", work);
-    finds(rt, b"find none", keys, two, full, b"g", work);
-}
-
-// Stepping back with one.
-fn full_backs(
-    rt: &HostRuntime,
-    keys: &[u8],
-    two: &[u8],
-    full: Table,
-    out: &mut [u8],
-    work: &mut [u32],
-) {
-    steps_back_marked(rt, b"marks kept", keys, two, full, 2, 32768, out, work);
-    steps_back_marked(rt, b"marks dropped", keys, two, full, 1, 32768, out, work);
-}
-
-// The calls with a full table.
-fn full_calls(
-    rt: &HostRuntime,
-    keys: &[u8],
-    two: &[u8],
-    full: Table,
-    out: &mut [u8],
-    work: &mut [u32],
-) {
-    full_sets(rt, keys, two, full, work);
-    full_finds(rt, keys, two, full, work);
-    full_backs(rt, keys, two, full, out, work);
+fn full_finds(bench: &mut Bench, two: &[u8], full: Table) {
+    bench.finds("find the first", two, full, "A");
+    bench.finds("find the last", two, full, "f");
+    bench.finds("find none", two, full, "g");
 }
 
 // 32 marks, and one more.
-fn counts(rt: &HostRuntime, keys: &[u8], two: &[u8], out: &mut [u8], work: &mut [u32]) {
-    sets(rt, b"mark 1", keys, two, blank(32), b"A", 2, work);
-    let most = marked(keys, two, 31, work);
-    let full = sets(rt, b"mark 32", keys, two, most, b"f", 1, work);
-    full_calls(rt, keys, two, full, out, work);
+fn counts(bench: &mut Bench, two: &[u8], out: &mut Out) {
+    bench.sets("mark 1", two, blank(32), "A", 2);
+    let most = marked(bench, two, 31);
+    let full = bench.sets("mark 32", two, most, "f", 1);
+    full_sets(bench, two, full);
+    full_finds(bench, two, full);
+    bench.steps_back_marked("marks kept", two, full, 2, out);
+    bench.steps_back_marked("marks dropped", two, full, 1, out);
 }
 
 // Names of 17 bytes, none, and one that is illegal.
-fn set_names(rt: &HostRuntime, keys: &[u8], two: &[u8], t: Table, work: &mut [u32]) {
-    sets(
-        rt,
-        b"name of 17",
-        keys,
-        two,
-        t,
-        b"as_commissioned.1",
-        1,
-        work,
-    );
-    sets(rt, b"name of none", keys, two, t, b"", 1, work);
-    sets(rt, b"refusal 15", keys, two, t, b"as commissioned", 1, work);
+fn set_names(bench: &mut Bench, two: &[u8], t: Table) {
+    bench.sets("name of 17", two, t, "as_commissioned.1", 1);
+    bench.sets("name of none", two, t, "", 1);
+    bench.sets("refusal 15", two, t, "as commissioned", 1);
 }
 
-// A name of 16 bytes found, and not its first 15.
-fn find_names(rt: &HostRuntime, keys: &[u8], two: &[u8], t: Table, work: &mut [u32]) {
-    finds(
-        rt,
-        b"find a name of 16",
-        keys,
-        two,
-        t,
-        b"as_commissioned.",
-        work,
-    );
-    finds(
-        rt,
-        b"find a name of 15",
-        keys,
-        two,
-        t,
-        b"as_commissioned",
-        work,
-    );
+// Names and versions at their limits: a name of 16 bytes found, and not its first 15; versions outside 1 to n.
+fn names(bench: &mut Bench, two: &[u8]) {
+    let t = bench.sets("name of 16", two, blank(32), "as_commissioned.", 1);
+    set_names(bench, two, t);
+    bench.finds("find a name of 16", two, t, "as_commissioned.");
+    bench.finds("find a name of 15", two, t, "as_commissioned");
+    bench.sets("mark of n + 1", two, t, "later", 3);
+    bench.sets("mark of 0", two, t, "never", 0);
 }
 
-// Versions outside 1 to n.
-fn set_outside(rt: &HostRuntime, keys: &[u8], two: &[u8], t: Table, work: &mut [u32]) {
-    sets(rt, b"mark of n + 1", keys, two, t, b"later", 3, work);
-    sets(rt, b"mark of 0", keys, two, t, b"never", 0, work);
-}
-
-// Names and versions at their limits.
-fn names(rt: &HostRuntime, keys: &[u8], two: &[u8], work: &mut [u32]) {
-    let t = sets(
-        rt,
-        b"name of 16",
-        keys,
-        two,
-        blank(32),
-        b"as_commissioned.",
-        1,
-        work,
-    );
-    set_names(rt, keys, two, t, work);
-    find_names(rt, keys, two, t, work);
-    set_outside(rt, keys, two, t, work);
-}
-
-// Stepping back to a mark with an output of exactly the result's length, and one byte short.
-fn named_outputs(
-    rt: &HostRuntime,
-    keys: &[u8],
-    two: &[u8],
-    t: Table,
-    out: &mut [u8],
-    work: &mut [u32],
-) {
-    steps_back_to_mark(rt, b"back to mark exact", keys, two, t, b"B", 28, out, work);
-    steps_back_to_mark(rt, b"back to mark short", keys, two, t, b"B", 27, out, work);
-}
-
-// The same by number.
-fn marked_outputs(
-    rt: &HostRuntime,
-    keys: &[u8],
-    two: &[u8],
-    t: Table,
-    out: &mut [u8],
-    work: &mut [u32],
-) {
-    steps_back_marked(rt, b"marked back exact", keys, two, t, 1, 28, out, work);
-    steps_back_marked(rt, b"marked back short", keys, two, t, 1, 27, out, work);
-}
-
-// Outputs, and a name that is not held before an output that is too short.
-fn outputs(rt: &HostRuntime, keys: &[u8], two: &[u8], out: &mut [u8], work: &mut [u32]) {
-    let t = marked(keys, two, 2, work);
-    named_outputs(rt, keys, two, t, out, work);
-    marked_outputs(rt, keys, two, t, out, work);
-    steps_back_to_mark(rt, b"back to no mark", keys, two, t, b"C", 0, out, work);
+// Outputs of exactly the result's length, and one byte short; and a name that is not held before an output that is too short.
+fn outputs(bench: &mut Bench, two: &[u8], out: &mut Out) {
+    let t = marked(bench, two, 2);
+    bench.steps_back_to_mark("back to mark exact", two, t, "B", &mut out[..28]);
+    bench.steps_back_to_mark("back to mark short", two, t, "B", &mut out[..27]);
+    bench.steps_back_marked("marked back exact", two, t, 1, &mut out[..28]);
+    bench.steps_back_marked("marked back short", two, t, 1, &mut out[..27]);
+    bench.steps_back_to_mark("back to no mark", two, t, "C", &mut []);
 }
 
 // A mark of version 2, lent with an archive of one version.
-fn late_refusals(rt: &HostRuntime, keys: &[u8], t: Table, out: &mut [u8], work: &mut [u32]) {
+fn late_refusals(bench: &mut Bench, t: Table) {
     let one = b"<T t=\"1\"><s></s></T>";
-    sets(rt, b"refusal 17", keys, one, t, b"", 0, work);
-    finds(rt, b"find refusal 17", keys, one, t, b"A", work);
-    steps_back_marked(rt, b"back refusal 17", keys, one, t, 0, 0, out, work);
-    steps_back_to_mark(
-        rt,
-        b"back to mark refusal 17",
-        keys,
-        one,
-        t,
-        b"",
-        0,
-        out,
-        work,
-    );
+    bench.sets("refusal 17", one, t, "", 0);
+    bench.finds("find refusal 17", one, t, "A");
+    bench.steps_back_marked("back refusal 17", one, t, 0, &mut []);
+    bench.steps_back_to_mark("back to mark refusal 17", one, t, "", &mut []);
 }
 
 // An unused entry that is not all zero.
-fn unused_refusals(rt: &HostRuntime, keys: &[u8], two: &[u8], work: &mut [u32]) {
+fn unused_refusals(bench: &mut Bench, two: &[u8]) {
     let mut bytes = [0u8; 608];
     bytes[607] = 1;
     let t = table_from(&bytes);
-    sets(rt, b"last byte 1", keys, two, t, b"A", 1, work);
-    sets(rt, b"archive before table", keys, b"", t, b"A", 1, work);
-}
-
-// Tables that are refused.
-fn table_refusals(rt: &HostRuntime, keys: &[u8], two: &[u8], out: &mut [u8], work: &mut [u32]) {
-    let t = marked(keys, two, 2, work);
-    late_refusals(rt, keys, t, out, work);
-    unused_refusals(rt, keys, two, work);
+    bench.sets("last byte 1", two, t, "A", 1);
+    bench.sets("archive before table", b"", t, "A", 1);
 }
 
 // Marks of an archive of two versions.
-pub fn marks(rt: &HostRuntime, keys: &[u8], out: &mut [u8], work: &mut [u32]) {
+pub fn marks(bench: &mut Bench, out: &mut Out) {
     let two = b"<T t=\"1-2\"><s><T t=\"1\"><f>x</f></T></s></T>";
-    counts(rt, keys, two, out, work);
-    names(rt, keys, two, work);
-    outputs(rt, keys, two, out, work);
-    table_refusals(rt, keys, two, out, work);
+    counts(bench, two, out);
+    names(bench, two);
+    outputs(bench, two, out);
+    let t = marked(bench, two, 2);
+    late_refusals(bench, t);
+    unused_refusals(bench, two);
 }
 
 // Marks of the last versions of an archive of 999.
-fn last_sets(rt: &HostRuntime, keys: &[u8], archive: &[u8], work: &mut [u32]) -> Table {
-    let one = sets(
-        rt,
-        b"mark of 998",
-        keys,
-        archive,
-        blank(32),
-        b"new-lens",
-        998,
-        work,
-    );
-    let two = sets(
-        rt,
-        b"mark of 999",
-        keys,
-        archive,
-        one,
-        b"new-lamp",
-        999,
-        work,
-    );
-    sets(
-        rt,
-        b"mark of 1,000",
-        keys,
-        archive,
-        two,
-        b"newer",
-        1000,
-        work,
-    );
+fn last_sets(bench: &mut Bench, archive: &[u8]) -> Table {
+    let one = bench.sets("mark of 998", archive, blank(32), "new-lens", 998);
+    let two = bench.sets("mark of 999", archive, one, "new-lamp", 999);
+    bench.sets("mark of 1,000", archive, two, "newer", 1000);
     two
 }
 
-// Stepping back to them.
-fn last_backs(
-    rt: &HostRuntime,
-    keys: &[u8],
-    archive: &[u8],
-    t: Table,
-    out: &mut [u8],
-    work: &mut [u32],
-) {
-    steps_back_to_mark(
-        rt,
-        b"back to the mark of 999",
-        keys,
-        archive,
-        t,
-        b"new-lamp",
-        32768,
-        out,
-        work,
-    );
-    steps_back_to_mark(
-        rt,
-        b"back to the mark of 998",
-        keys,
-        archive,
-        t,
-        b"new-lens",
-        32768,
-        out,
-        work,
-    );
-}
-
-// Marks of an archive of 999 versions.
-pub fn last_marks(rt: &HostRuntime, keys: &[u8], archive: &[u8], out: &mut [u8], work: &mut [u32]) {
-    let t = last_sets(rt, keys, archive, work);
-    finds(rt, b"find 999", keys, archive, t, b"new-lamp", work);
-    last_backs(rt, keys, archive, t, out, work);
+// Marks of an archive of 999 versions, and stepping back to them.
+pub fn last_marks(bench: &mut Bench, archive: &[u8], out: &mut Out) {
+    let t = last_sets(bench, archive);
+    bench.finds("find 999", archive, t, "new-lamp");
+    bench.steps_back_to_mark("back to the mark of 999", archive, t, "new-lamp", out);
+    bench.steps_back_to_mark("back to the mark of 998", archive, t, "new-lens", out);
 }

@@ -1,27 +1,29 @@
-// Texts made of repeated words.
-ghost use Rattle.std.specs.Prelude.{◌≤◌, length};
+// Texts made of repeated words, in fixed memory: nothing here is allocated.
+use std::io::{Cursor, Write};
 
-use files::put;
+// A text as long as a version may be; what does not fit is left out.
+pub type Text = Cursor<[u8; 16384]>;
 
 // Puts a word so many times.
-pub fn put_times(text: &mut [u8], at: usize, word: &[u8], count: usize) -> usize
-    ensures { result ≤ length text.new }
-{
-    let mut n = at;
-    let mut i = 0;
-    while i < count {
-        n = put(text, n, word);
-        i += 1;
+pub fn put_times(text: &mut Text, word: &str, count: usize) {
+    for _ in 0..count {
+        let _ = text.write_all(word.as_bytes());
     }
-    files::within(n, text)
+}
+
+// A word so many times.
+pub fn times(word: &str, count: usize) -> Text {
+    let mut text = Cursor::new([0; 16384]);
+    put_times(&mut text, word, count);
+    text
 }
 
 // A version whose one frontier holds so many times a word, and as many times what closes it.
-pub fn put_version(text: &mut [u8], word: &[u8], count: usize, close: &[u8]) -> usize
-    ensures { result ≤ length text.new }
-{
-    let open = put(text, 0, b"<s><f>");
-    let inside = put_times(text, open, word, count);
-    let end = put_times(text, inside, close, count);
-    put(text, end, b"</f></s>")
+pub fn version_of(word: &str, count: usize, close: &str) -> Text {
+    let mut text = Cursor::new([0; 16384]);
+    let _ = text.write_all(b"<s><f>");
+    put_times(&mut text, word, count);
+    put_times(&mut text, close, count);
+    let _ = text.write_all(b"</f></s>");
+    text
 }

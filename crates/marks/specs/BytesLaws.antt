@@ -1,10 +1,13 @@
 -- Laws of the loops between a table and its 608 bytes, and the promise that the two forms are one.
-use Rattle.std.specs.Prelude.{ℕ, zero, suc, ◌+◌, ◌*◌, ◌/◌, ◌%◌, ◌≤◌, ◌<◌, ◌≡◌, refl, List, [], ◌∷◌, ◌++◌, length, take, drop, set, replicate}
-use Rattle.std.proofs.Common.{arith, add-one, ◌∙◌, append-nil, append_assoc, length-drop, take-append-drop, drop_of_length-le, get_or-drop, drop-drop, take-suc, take_at, drop_at, take_all, eq-eqb, ne_eqb}
+use Rattle.std.specs.Prelude.{ℕ, zero, suc, ◌+◌, ◌*◌, ◌/◌, ◌%◌, ◌≤◌, ◌<◌, ◌≡◌, refl, List, [], ◌∷◌, ◌++◌, length, take, drop, set}
+use Rattle.std.proofs.Common.{arith, add-one, ◌∙◌, append-nil, append_assoc, length-drop, length-set, take-append-drop, drop_of_length-le, get_or-drop, drop-drop, take-suc, take_at, drop_at, take_all, eq-eqb, ne_eqb}
 use Rattle.std.proofs.Math.Path.{sym, ap}
-use Rattle.std.proofs.Math.ListN.{get_or, length-append, get_or-append}
+use Rattle.std.proofs.Math.ListN.{get_or, length-append}
 use Rattle.std.proofs.Math.Seq.{get_or-append-add, drop-append-add, paste, paste-suc}
-use Rattle.std.proofs.lemmas.List.Edits.{length-paste}
+use Rattle.std.proofs.lemmas.Slice.{put_mid-paste}
+use borrow.Rule.Slice.PartMut.{put_mid}
+use Rattle.std.specs.Int.{w16, from_le_bytes, to_le_bytes}
+use Rattle.std.proofs.lemmas.Nat.{le_bytes_2}
 use Rattle.xml.specs.Bytes.{Bytes}
 use Rattle.marks.specs.declared.Mark.{Mark}
 use Rattle.marks.specs.declared.Table.{Table}
@@ -14,19 +17,23 @@ use Rattle.marks.specs.Passed.{LendsAs, wrongs, unreadable}
 use Rattle.marks.specs.Lent.{past, over, blanks}
 use Rattle.marks.specs.LentLaws.{over-next, blanks-length}
 
--- ---- an entry of 19 bytes
-pub name-read : (s : Bytes) (at i : ℕ) (b : List ℕ) → at + 19 ≤ length s → i < 16 → b ≡ over i (drop at s) (replicate 16 0) → set b i (get_or s (at + i) 0) ≡ over (i + 1) (drop at s) (replicate 16 0)
-name-read s at i b h l e =
-    let z : i < length (drop at s) = rw length-drop (omega arith) in
-    ap (λ x. set x i (get_or s (at + i) 0)) e ∙ ap (set (over i (drop at s) (replicate 16 0)) i) (sym (get_or-drop at s i 0)) ∙ over-next i (drop at s) (replicate 16 0) 0 z l
+-- ---- the two bytes of a version
+pub two-read : (a b : ℕ) → from_le_bytes w16 (a ∷ b ∷ []) ≡ a + 256 * b
+two-read a b = omega arith
 
-pub mark-read : (s : Bytes) (at i : ℕ) (b : List ℕ) (v : ℕ) → i ≤ 16 → 16 ≤ i → b ≡ over i (drop at s) (replicate 16 0) → v ≡ get_or s (at + 17) 0 + 256 * get_or s (at + 18) 0
+pub two-written : (v : ℕ) → v < 65536 → to_le_bytes w16 v ≡ v % 256 ∷ v / 256 ∷ []
+two-written v h = le_bytes_2 (v % 256 ∷ v / 256 ∷ []) v refl bytes (omega arith)
+  where
+    bytes : (i : ℕ) → get_or (v % 256 ∷ v / 256 ∷ []) i 0 < 256
+    bytes zero = omega arith
+    bytes (suc zero) = omega arith
+    bytes (suc (suc i)) = omega arith
+
+-- ---- an entry of 19 bytes
+pub mark-read : (s : Bytes) (at : ℕ) (b : List ℕ) (v : ℕ) → b ≡ take 16 (drop at s) → v ≡ get_or s (at + 17) 0 + 256 * get_or s (at + 18) 0
     → ◌≡◌ {A = Mark} (record { name = b; len = get_or s (at + 16) 0; version = v }) (mark_of (drop at s))
 unfolding mark_of
-mark-read s at i b v j k e f =
-    let h : i ≡ 16 = omega arith in
-    let g : b ≡ take 16 (drop at s) = e ∙ ap (λ n. over n (drop at s) (replicate 16 0)) h ∙ append-nil (take 16 (drop at s)) in
-    rw (g, f, get_or-drop at s 16 0, get_or-drop at s 17 0, get_or-drop at s 18 0) refl
+mark-read s at b v e f = rw (e, f, get_or-drop at s 16 0, get_or-drop at s 17 0, get_or-drop at s 18 0) refl
 
 -- ---- the table of 608
 marks-length : (k : ℕ) (s : Bytes) → length (marks_from k s) ≡ k
@@ -93,23 +100,27 @@ read_short s r h e = rw (e) (record {
     other n = ap (marks_in n) (table-short s h) ∙ nothing-refused n
 
 -- ---- writing
+put-two : (i : ℕ) (l : Bytes) (a b : ℕ) → i + 2 ≤ length l → put_mid i 2 l (a ∷ b ∷ []) ≡ set (set l i a) (suc i) b
+put-two zero [] a b h = absurd (omega arith)
+put-two zero (x ∷ []) a b h = absurd (omega arith)
+put-two zero (x ∷ y ∷ l) a b h = refl
+put-two (suc i) [] a b h = absurd (omega arith)
+put-two (suc i) (x ∷ l) a b h = ap (λ r. x ∷ r) (put-two i l a b (omega arith))
+
 module _ (m : Mark) (h : length m.name ≡ 16) where
   pub entry_length : length (entry_bytes m) ≡ 19
   unfolding entry_bytes
   entry_length = rw length-append (rw h refl)
 
-  byte-name : (j : ℕ) → j < 16 → get_or m.name j 0 ≡ get_or (entry_bytes m) j 0
+  name-first : take 16 m.name ≡ take 16 (entry_bytes m)
   unfolding entry_bytes
-  byte-name j l = sym (get_or-append m.name (m.len ∷ m.version % 256 ∷ m.version / 256 ∷ []) 0 j (omega arith))
+  name-first = take_all 16 m.name (omega arith) ∙ sym (take_at m.name (m.len ∷ m.version % 256 ∷ m.version / 256 ∷ []) 16 h)
 
   byte-after : (k : ℕ) → get_or (entry_bytes m) (16 + k) 0 ≡ get_or (m.len ∷ m.version % 256 ∷ m.version / 256 ∷ []) k 0
   unfolding entry_bytes
   byte-after k = ap (λ i. get_or (entry_bytes m) (i + k) 0) (sym h) ∙ get_or-append-add m.name (m.len ∷ m.version % 256 ∷ m.version / 256 ∷ []) k 0
 
   module _ (out : Bytes) (at : ℕ) (l : at + 19 ≤ length out) where
-    pub put-size : (now : Bytes) (j : ℕ) → j ≤ 19 → now ≡ paste out at (entry_bytes m) j → length now ≡ length out
-    put-size now j k e = let g = entry_length in ap length e ∙ length-paste out at (entry_bytes m) j (omega arith) (omega arith)
-
     put_byte : (now : Bytes) (j : ℕ) (b : ℕ) → j < 19 → now ≡ paste out at (entry_bytes m) j → b ≡ get_or (entry_bytes m) j 0 → set now (at + j) b ≡ paste out at (entry_bytes m) (j + 1)
     put_byte now j b k e f =
         let g = entry_length in
@@ -117,16 +128,23 @@ module _ (m : Mark) (h : length m.name ≡ 16) where
         let q : j < length (entry_bytes m) = omega arith in
         ap (λ x. set x (at + j) b) e ∙ ap (set (paste out at (entry_bytes m) j) (at + j)) f ∙ paste-suc out at (entry_bytes m) j 0 p q ∙ ap (paste out at (entry_bytes m)) (sym (add-one j))
 
-    pub put-name : (now : Bytes) (j : ℕ) → j < 16 → now ≡ paste out at (entry_bytes m) j → set now (at + j) (get_or m.name j 0) ≡ paste out at (entry_bytes m) (j + 1)
-    put-name now j k e = put_byte now j (get_or m.name j 0) (omega arith) e (byte-name j k)
+    pub put-name : (k : ℕ) (s : Bytes) → 16 ≡ k → s ≡ m.name → put_mid at k out s ≡ paste out at (entry_bytes m) 16
+    put-name k s e f = put_mid-paste at k out s m.name 16 f e (sym h) ∙ ap (λ x. take at out ++ x ++ drop (at + 16) out) name-first
 
-    pub put_rest : (now : Bytes) (j : ℕ) → j ≤ 16 → 16 ≤ j → now ≡ paste out at (entry_bytes m) j
+    put_rest : (now : Bytes) → now ≡ paste out at (entry_bytes m) 16
         → set (set (set now (at + 16) m.len) (at + 17) (m.version % 256)) (at + 18) (m.version / 256) ≡ paste out at (entry_bytes m) 19
-    put_rest now j a b e =
-        let z : j ≡ 16 = omega arith in
-        let f : set now (at + 16) m.len ≡ paste out at (entry_bytes m) 17 = put_byte now 16 m.len (omega arith) (e ∙ ap (paste out at (entry_bytes m)) z) (sym (byte-after 0)) in
+    put_rest now e =
+        let f : set now (at + 16) m.len ≡ paste out at (entry_bytes m) 17 = put_byte now 16 m.len (omega arith) e (sym (byte-after 0)) in
         let g : set (set now (at + 16) m.len) (at + 17) (m.version % 256) ≡ paste out at (entry_bytes m) 18 = put_byte _ 17 (m.version % 256) (omega arith) f (sym (byte-after 1)) in
         put_byte _ 18 (m.version / 256) (omega arith) g (sym (byte-after 2))
+
+    pub put-version : (now : Bytes) (k : ℕ) (b : Bytes) → now ≡ paste out at (entry_bytes m) 16 → at + 19 ≤ length now → 2 ≡ k → b ≡ m.version % 256 ∷ m.version / 256 ∷ []
+        → put_mid (at + 17) k (set now (at + 16) m.len) b ≡ paste out at (entry_bytes m) 19
+    put-version now k b e n f g =
+        let s = set now (at + 16) m.len in
+        let h : at + 17 + 2 ≤ length s = rw length-set (omega arith) in
+        let j : suc (at + 17) ≡ at + 18 = omega arith in
+        rw (← f, g) (put-two (at + 17) s (m.version % 256) (m.version / 256) h ∙ ap (λ i. set (set s (at + 17) (m.version % 256)) i (m.version / 256)) j ∙ put_rest now e)
 
 append-end : (ms : List Mark) (m : Mark) → table_bytes (ms ++ m ∷ []) ≡ table_bytes ms ++ entry_bytes m
 unfolding table_bytes

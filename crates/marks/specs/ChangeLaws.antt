@@ -1,5 +1,6 @@
 -- Laws of the table of a list of marks.
-use Rattle.std.specs.Prelude.{ℕ, zero, suc, ◌+◌, ◌-◌, ◌≤◌, ◌<◌, Bool, ◌&&◌, List, [], ◌∷◌, ◌++◌, map, eqb, leb, take, drop, get_or, set, replicate}
+use Rattle.std.specs.Prelude.{ℕ, zero, suc, ◌+◌, ◌-◌, ◌≤◌, ◌<◌, Bool, ◌&&◌, List, [], ◌∷◌, ◌++◌, map, eqb, leb, take, drop, get_or, set, replicate, Option, Some, None, Result as Tried, Ok, Err}
+use Rattle.std.specs.Option.{is_some}
 use native.Mathlib.Omega.{arith}
 use Rattle.std.proofs.Common.{add-one, ◌∙◌, append_assoc, length-append, take_at, take-suc}
 use Rattle.std.proofs.Math.Path.{◌≡◌, refl, sym, ap}
@@ -13,16 +14,15 @@ use Rattle.xml.specs.BytesLaws.{same-is}
 use Rattle.xml.specs.Truth.{and_left, and_right, by-test, clash}
 use Rattle.marks.specs.declared.Mark.{Mark}
 use Rattle.marks.specs.declared.Table.{Table}
-use Rattle.marks.specs.declared.judge.Judged.{Judged}
-use Rattle.marks.specs.declared.judge.Judged.TheVariants.{Marks, Illegal}
-use Rattle.marks.specs.declared.change.Changed.{Changed}
-use Rattle.marks.specs.declared.change.Found.{Found}
-use Rattle.keys.specs.Result.{Result, refused, ok, r11, r15, r16, r17}
-use Rattle.marks.specs.Marks.{Named, is_mark_name, in_range, is_mark, entry, entries, name_of, same_mark, held, is_table, marks_in, legal_name, not_held, not_full, standing, find, up_to, setting, finding, dropping, marks_after, number, unused, names}
-use Rattle.marks.specs.Judging.{place_in, lent_of, judged, pick_judged}
-use Rattle.marks.specs.JudgeLaws.{held-blank, held-used, map_snoc, place-any, take_short}
-use Rattle.marks.specs.Lent.{past, blanks, over}
-use Rattle.marks.specs.Changing.{mark_named, refusing, changed_by, changed_after, number_after, table_after, found_by, not_found, found_after, setting_among, finding_among, holding}
+use Rattle.keys.specs.declared.refusal.Refusal.{Refusal}
+use Rattle.keys.specs.declared.refusal.Refusal.TheVariants.{TableIllegal}
+use Rattle.keys.specs.Result.{refused, ok, ◌>>=◌, r11, r15, r16, r17}
+use Rattle.keys.specs.Meant.{row_of, meant}
+use Rattle.marks.specs.Marks.{Named, is_mark_name, in_range, is_mark, entry, entries, name_of, same_mark, held, is_table, marks_in, legal_name, not_held, not_full, standing, find, up_to, setting, finding, dropping, unused, names}
+use Rattle.marks.specs.Judging.{place_in, placed, lent_of, judged, pick_judged}
+use Rattle.marks.specs.JudgeLaws.{held-blank, held-used, map_snoc, place-yes, place-no, place-any, placed-some, placed-none, take_short}
+use Rattle.marks.specs.Lent.{past, blanks}
+use Rattle.marks.specs.Changing.{mark_named, tabled, version_in, setting_among, finding_among, holding}
 
 -- ---- two marks that are the same
 pub mark-is : (a b : Mark) → same_mark a b ≡ true → a ≡ b
@@ -86,14 +86,6 @@ unfolding entries
 names_of ks = rw (take_at (map entry ks) (replicate (32 - length ks) unused) (length ks) (length-map ks entry)) (names-entries ks)
 
 -- ---- finding
-place-yes : (s t : Bytes) (ts : List Bytes) → same s t ≡ true → place_in s (t ∷ ts) ≡ 0
-unfolding place_in
-place-yes s t ts e = rw (e, place_in) refl
-
-place-no : (s t : Bytes) (ts : List Bytes) → same s t ≡ false → place_in s (t ∷ ts) ≡ suc (place_in s ts)
-unfolding place_in
-place-no s t ts e = rw (e, place_in) refl
-
 find-yes : (s : Bytes) (k : Named) (ks : List Named) → same s k.name ≡ true → find s (k ∷ ks) ≡ ok k
 unfolding find
 find-yes s k ks e = rw (e, find) refl
@@ -221,12 +213,10 @@ drop-replicate zero n a = let h : n - 0 ≡ n = omega arith in rw h refl
 drop-replicate (suc i) zero a = let h : 0 - suc i ≡ 0 = omega arith in rw h refl
 drop-replicate (suc i) (suc n) a = let h : suc n - suc i ≡ n - i = omega arith in rw h (drop-replicate i n a)
 
-pub entry-made : (s : Bytes) (v i : ℕ) (b : List ℕ) → length s ≤ i → i ≤ length s → b ≡ over i s (replicate 16 0)
-    → ◌≡◌ {A = Mark} (record { name = b; len = length s; version = v }) (entry (mark_named s v))
+pub entry-made : (s : Bytes) (v : ℕ) (b : List ℕ) → b ≡ s
+    → ◌≡◌ {A = Mark} (record { name = b ++ drop (length s) (replicate 16 0); len = length s; version = v }) (entry (mark_named s v))
 unfolding entry
-entry-made s v i b k l e =
-    let h : i ≡ length s = omega arith in
-    rw (e, h, take_all (length s) s (omega arith), drop-replicate {A = ℕ} (length s) 16 0) refl
+entry-made s v b e = rw (e, drop-replicate {A = ℕ} (length s) 16 0) refl
 
 -- ---- a table by value
 module _ (n : ℕ) (t : Table) (small : t.size ≤ 32) (h : length t.held ≡ 32) where
@@ -237,11 +227,11 @@ module _ (n : ℕ) (t : Table) (small : t.size ≤ 32) (h : length t.held ≡ 32
     pub few : u ≤ 32
     pub reads : marks_in n (lent_of t) ≡ ok (held (lent_of t))
 
-  legal-marks : (b : Bool) (u : ℕ) → is_table n (lent_of t) ≡ b → pick_judged b (length (held (lent_of t))) ≡ Marks u → Legal u
+  legal-marks : (b : Bool) (u : ℕ) → is_table n (lent_of t) ≡ b → pick_judged b (length (held (lent_of t))) ≡ Ok u → Legal u
   unfolding is_table marks_in entries
-  legal-marks false u e p = let z : ◌≡◌ {A = Judged} Illegal (Marks u) = p in absurd (never z)
+  legal-marks false u e p = absurd (never p)
     where
-      never : Illegal ≡ Marks u → ⊥
+      never : ◌≡◌ {A = Tried ℕ Refusal} (Err TableIllegal) (Ok u) → ⊥
       never q = let y : ◌≡◌ {A = ℕ} 0 1 = cc in omega arith
   legal-marks true u e p =
       let c : length (held (lent_of t)) ≡ u = cc in
@@ -256,19 +246,26 @@ module _ (n : ℕ) (t : Table) (small : t.size ≤ 32) (h : length t.held ≡ 32
         reads = rw e refl;
       }
 
-  pub legal-is : (u : ℕ) → Marks u ≡ judged n (lent_of t) → Legal u
+  pub legal-is : (u : ℕ) → Ok u ≡ judged n (lent_of t) → Legal u
   legal-is u p = legal-marks (is_table n (lent_of t)) u refl (sym p)
 
-  illegal-marks : (b : Bool) → is_table n (lent_of t) ≡ b → pick_judged b (length (held (lent_of t))) ≡ Illegal → marks_in n (lent_of t) ≡ refused r17
-  unfolding marks_in
-  illegal-marks true e p = absurd (never p)
-    where
-      never : Marks (length (held (lent_of t))) ≡ Illegal → ⊥
-      never q = let y : ◌≡◌ {A = ℕ} 0 1 = cc in omega arith
-  illegal-marks false e p = rw e refl
+-- a table that is refused, under its row
+pub illegal-is : (n : ℕ) (ms : List Mark) (w : Refusal) → Err w ≡ judged n ms → (row_of w ≡ r17) × (marks_in n ms ≡ refused r17)
+unfolding marks_in
+illegal-is n ms w p = at (is_table n ms) refl (sym p)
+  where
+    at : (b : Bool) → is_table n ms ≡ b → pick_judged b (length (held ms)) ≡ Err w → (row_of w ≡ r17) × (marks_in n ms ≡ refused r17)
+    at true e q = let y : ◌≡◌ {A = ℕ} 0 1 = cc in absurd (omega arith)
+    at false e q = let v : w ≡ TableIllegal = cc in (ap row_of v, rw e refl)
 
-  pub illegal-is : Illegal ≡ judged n (lent_of t) → marks_in n (lent_of t) ≡ refused r17
-  illegal-is p = illegal-marks (is_table n (lent_of t)) refl (sym p)
+-- what is judged is how many marks are read
+pub judged-means : (n : ℕ) (ms : List Mark) → meant (judged n ms) ≡ (marks_in n ms >>= (λ ks. ok (length ks)))
+unfolding marks_in
+judged-means n ms = at (is_table n ms) refl
+  where
+    at : (b : Bool) → is_table n ms ≡ b → meant (pick_judged b (length (held ms))) ≡ (marks_in n ms >>= (λ ks. ok (length ks)))
+    at true e = rw e refl
+    at false e = rw e refl
 
 -- the three calls, after 17
 pub setting-legal : (n : ℕ) (ms : List Mark) (ks : List Named) (s : Bytes) (v : ℕ) → marks_in n ms ≡ ok ks → setting n ms s v ≡ setting_among n ks s v
@@ -295,11 +292,41 @@ pub dropping-illegal : (n : ℕ) (ms : List Mark) (i : ℕ) → marks_in n ms �
 unfolding dropping
 dropping-illegal n ms i e = rw e refl
 
+-- and 17
+module _ (n : ℕ) (ms : List Mark) {w : Refusal} (e : Err w ≡ judged n ms) where
+  pub set-17 : (s : Bytes) (v : ℕ) → refused (row_of w) ≡ tabled (setting n ms s v)
+  set-17 s v = let l = illegal-is n ms w e in ap refused l.0 ∙ ap tabled (sym (setting-illegal n ms s v l.1))
+
+  pub find-17 : (s : Bytes) → refused (row_of w) ≡ version_in (finding n ms s)
+  find-17 s = let l = illegal-is n ms w e in ap refused l.0 ∙ ap version_in (sym (finding-illegal n ms s l.1))
+
+  pub drop-17 : (i : ℕ) → refused (row_of w) ≡ tabled (dropping n ms i)
+  drop-17 i = let l = illegal-is n ms w e in ap refused l.0 ∙ ap tabled (sym (dropping-illegal n ms i l.1))
+
 -- ---- the returns of `set_among` and `find_among`
 -- the place of a name among the entries of a legal table
-pub place-among : (s : Bytes) (v : ℕ) (ks : List Named) (l : List Mark) (u : ℕ) → l ≡ entries ks → length ks ≡ u
+place-among : (s : Bytes) (v : ℕ) (ks : List Named) (l : List Mark) (u : ℕ) → l ≡ entries ks → length ks ≡ u
     → place_in (name_of (entry (mark_named s v))) (map name_of (take u l)) ≡ place_in s (map (λ k. k.name) ks)
 place-among s v ks l u e g = rw (e, ← g, names_of ks, name-entry (mark_named s v)) refl
+
+-- what `place_of` answers there
+module _ (s : Bytes) (v : ℕ) (ks : List Named) (l : List Mark) (u : ℕ) (e : l ≡ entries ks) (g : length ks ≡ u) {m : Mark} (q : m ≡ entry (mark_named s v)) where
+  abbrev names-place : ℕ
+  names-place = place_in s (map (λ k. k.name) ks)
+
+  among : (r : Option ℕ) → r ≡ placed (place_in (name_of m) (map name_of (take u l))) u → r ≡ placed names-place (length ks)
+  among r p = p ∙ ap (λ x. placed (place_in (name_of x) (map name_of (take u l))) u) q ∙ ap (λ i. placed i u) (place-among s v ks l u e g) ∙ ap (placed names-place) (sym g)
+
+  pub place-some : {i : ℕ} → Some i ≡ placed (place_in (name_of m) (map name_of (take u l))) u → (i ≡ place_in s (map (λ k. k.name) ks)) × (i < length ks)
+  place-some {i} p = let a = placed-some (among (Some i) p) in (a.0, omega (arith, a.0, a.1))
+
+  pub place-none : (r : Option ℕ) → is_some r ≡ false → r ≡ placed (place_in (name_of m) (map name_of (take u l))) u → length ks ≤ place_in s (map (λ k. k.name) ks)
+  place-none None n p = placed-none (among None p)
+  place-none (Some i) n p = clash n
+
+  pub place-held : (r : Option ℕ) → is_some r ≡ true → r ≡ placed (place_in (name_of m) (map name_of (take u l))) u → place_in s (map (λ k. k.name) ks) < length ks
+  place-held None n p = clash (sym n)
+  place-held (Some i) n p = (placed-some (among (Some i) p)).1
 
 module _ (n : ℕ) (ks : List Named) (s : Bytes) (v : ℕ) where
   pub set-unnamed : is_mark_name s ≡ false → setting_among n ks s v ≡ refused r15
@@ -346,50 +373,15 @@ module _ (ks : List Named) (s : Bytes) where
   find-missing e l = rw (e, find_none s ks l) refl
 
 pub set-put : (t : Table) (ks : List Named) (k : Named) (m : Mark) (u : ℕ) → t.held ≡ entries ks → length ks ≡ u → u < 32 → m ≡ entry k
-    → ◌≡◌ {A = Changed} (record { number = 0; table = record { held = set t.held u m; size = 32 } }) (changed_by t (ok (ks ++ k ∷ [])))
+    → ok (record { held = set t.held u m; size = 32 }) ≡ tabled (ok (ks ++ k ∷ []))
 set-put t ks k m u e g l q =
     let h : set t.held u m ≡ entries (ks ++ k ∷ []) = rw (q, e, ← g) (set-entries ks k (omega arith)) in
     rw h refl
 
 pub find-put : (ks : List Named) (l : List Mark) (s : Bytes) (i : ℕ) → l ≡ entries ks → is_mark_name s ≡ true → i ≡ place_in s (map (λ k. k.name) ks) → i < length ks
-    → ◌≡◌ {A = Found} (record { number = 0; length = 0; version = (get_or l i past).version }) (found_by (finding_among ks s))
+    → ok (get_or l i past).version ≡ version_in (finding_among ks s)
 unfolding entry
 find-put ks l s i e y p h =
     let d : Named = record { name = []; version = 0 } in
     let v : (get_or l i past).version ≡ (get_or ks (place_in s (map (λ k. k.name) ks)) d).version = ap (λ m. m.version) (ap (λ x. get_or x i past) e ∙ at-entries ks i d h) ∙ ap (λ j. (get_or ks j d).version) p in
-    rw v (ap found_by (sym (find-done ks s y d (omega arith))))
-
--- ---- after what was tried before
--- the call is refused already
-module _ (before : ℕ) (d : before ≡ 0 → ⊥) where
-  pub change-stopped : (t : Table) (X : Result (List Named)) → changed_after before t X ≡ refusing t before
-  change-stopped t X = rw (ne_eqb before 0 d, changed_after) refl
-
-  pub number-stopped : {A : Type 0} (X : Result A) → number_after before X ≡ before
-  unfolding number_after
-  number-stopped X = rw (ne_eqb before 0 d, number_after) refl
-
-  pub table-stopped : (X : Result (List Named)) (ms : List Mark) → table_after before X ms ≡ ms
-  unfolding table_after
-  table-stopped X ms = rw (ne_eqb before 0 d, table_after) refl
-
-  pub find-stopped : (X : Result Named) → found_after before X ≡ not_found before
-  unfolding found_after
-  find-stopped X = rw (ne_eqb before 0 d, found_after) refl
-
--- it is not
-module _ (before : ℕ) (e : before ≡ 0) where
-  pub change-tried : (t : Table) (X : Result (List Named)) → changed_after before t X ≡ changed_by t X
-  change-tried t X = rw (eq-eqb before 0 e, changed_after) refl
-
-  pub number-tried : {A : Type 0} (X : Result A) → number_after before X ≡ number X
-  unfolding number_after
-  number-tried X = rw (eq-eqb before 0 e, number_after) refl
-
-  pub table-tried : (X : Result (List Named)) (ms : List Mark) → table_after before X ms ≡ marks_after X ms
-  unfolding table_after
-  table-tried X ms = rw (eq-eqb before 0 e, table_after) refl
-
-  pub find-tried : (X : Result Named) → found_after before X ≡ found_by X
-  unfolding found_after
-  find-tried X = rw (eq-eqb before 0 e, found_after) refl
+    rw v (ap version_in (sym (find-done ks s y d (omega arith))))

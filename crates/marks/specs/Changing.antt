@@ -1,12 +1,12 @@
 -- What the functions on a table by value give.
-use Rattle.std.specs.Prelude.{ℕ, true, false, List, [], ◌∷◌, ◌++◌, eqb}
+use Rattle.std.specs.Prelude.{ℕ, true, false, List, [], ◌∷◌, ◌++◌, eqb, Result as Tried, Ok, Err}
 use Rattle.xml.specs.Bytes.{Bytes}
 use Rattle.marks.specs.declared.Mark.{Mark}
 use Rattle.marks.specs.declared.Table.{Table}
-use Rattle.marks.specs.declared.change.Changed.{Changed}
-use Rattle.marks.specs.declared.change.Found.{Found}
-use Rattle.keys.specs.Result.{Result, refused, ok, ◌>>◌, number_of}
-use Rattle.marks.specs.Marks.{Named, entries, legal_name, not_held, not_full, standing, find, marks_after, number}
+use Rattle.keys.specs.Result.{Result, refused, ok, ◌>>=◌, ◌>>◌, number_of}
+use Rattle.keys.specs.Meant.{meant}
+use Rattle.keys.specs.declared.refusal.Refusal.{Refusal}
+use Rattle.marks.specs.Marks.{Named, entries, legal_name, not_held, not_full, standing, find, setting, finding, marks_after, number}
 
 abbrev pub mark_named : Bytes → ℕ → Named
 mark_named s v = record { name = s; version = v }
@@ -15,24 +15,34 @@ mark_named s v = record { name = s; version = v }
 abbrev pub holding : List Named → Table
 holding ks = record { held = entries ks; size = 32 }
 
--- a refusal: nothing is to be written back
-abbrev pub refusing : Table → ℕ → Changed
-refusing t n = record { number = n; table = record { held = t.held; size = 0 } }
+-- what is to be written back, and the version of a mark found
+abbrev pub tabled : Result (List Named) → Result Table
+tabled (refused r) = refused r
+tabled (ok ks) = ok (holding ks)
 
-abbrev pub changed_by : Table → Result (List Named) → Changed
-changed_by t (refused r) = refusing t (number_of r)
-changed_by t (ok ks) = record { number = 0; table = holding ks }
+abbrev pub version_in : Result Named → Result ℕ
+version_in (refused r) = refused r
+version_in (ok k) = ok k.version
 
-abbrev pub not_found : ℕ → Found
-not_found n = record { number = n; length = 0; version = 0 }
+-- that nothing is given but that it is done
+abbrev pub done : {A : Type 0} → Result A → Result (Unit {0})
+done (refused r) = refused r
+done (ok a) = ok tt
 
-abbrev pub found_by : Result Named → Found
-found_by (refused r) = not_found (number_of r)
-found_by (ok k) = record { number = 0; length = 0; version = k.version }
+-- ---- in the table of an archive whose versions were counted, or that is refused
+abbrev pub setting_after : Tried ℕ Refusal → List Mark → Bytes → ℕ → Result (List Named)
+setting_after counted ms name v = do
+  n ← meant counted
+  setting n ms name v
 
--- ---- after what was tried before: `before` is the number under which the call is refused already, or 0
-abbrev pub changed_after : ℕ → Table → Result (List Named) → Changed
-changed_after before t X = elim (eqb before 0) [ true ↦ changed_by t X | false ↦ refusing t before ]
+abbrev pub finding_after : Tried ℕ Refusal → List Mark → Bytes → Result Named
+finding_after counted ms name = do
+  n ← meant counted
+  finding n ms name
+
+-- ---- for a caller whose refusals are numbers: `before` is that under which the call is refused already, or 0
+abbrev pub counted_after : ℕ → ℕ → Tried ℕ ℕ
+counted_after before n = elim (eqb before 0) [ true ↦ Ok n | false ↦ Err before ]
 
 -- that number, else the number of the result
 unfoldable pub number_after : {A : Type 0} → ℕ → Result A → ℕ
@@ -43,8 +53,12 @@ unfoldable pub table_after : ℕ → Result (List Named) → List Mark → List 
 table_after before X ms = elim (eqb before 0) [ true ↦ marks_after X ms | false ↦ ms ]
 
 -- a refusal with that number, else what is found
-unfoldable pub found_after : ℕ → Result Named → Found
-found_after before X = elim (eqb before 0) [ true ↦ found_by X | false ↦ not_found before ]
+abbrev pub found_by : Result Named → Tried ℕ ℕ
+found_by (refused r) = Err (number_of r)
+found_by (ok k) = Ok k.version
+
+unfoldable pub found_after : ℕ → Result Named → Tried ℕ ℕ
+found_after before X = elim (eqb before 0) [ true ↦ found_by X | false ↦ Err before ]
 
 -- in a legal table that holds ks
 abbrev pub setting_among : ℕ → List Named → Bytes → ℕ → Result (List Named)

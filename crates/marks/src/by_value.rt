@@ -1,38 +1,55 @@
 // The functions over a lent table of marks, for callers that have it by value: each puts it into a local and lends it.
-ghost use Rattle.std.specs.Prelude.{◌≡◌, ◌≤◌};
+ghost use Rattle.std.specs.Prelude.{ℕ, ◌≡◌, ◌≤◌, IfOk, Ok, Err};
+ghost use Rattle.keys.specs.Meant.{Came};
 ghost use Rattle.marks.specs.Marks.{setting, finding, dropping};
-ghost use Rattle.marks.specs.Changing.{number_after, table_after, found_after};
+ghost use Rattle.marks.specs.Changing.{tabled, version_in};
 
-use crate::change::{Changed, Found};
 use crate::{Table, lent};
+use keys::refusal::Refusal;
 
-// Sets a mark in the table of an archive of n versions, unless the call is refused already; a refusal leaves the table as it was.
-pub fn set<'a>(t: Table, name: &'a [u8], version: usize, before: u32, n: usize) -> Changed
-    requires { n ≤ 999 }
-    ensures { (result.number ≡ number_after before (setting n t.held name.now version))
-        × (result.table.held ≡ table_after before (setting n t.held name.now version) t.held) }
+// Sets a mark in the table of an archive whose versions were counted: where that is refused, so is this.
+pub fn set<'a, E: From<Refusal>>(
+    t: Table,
+    name: &'a [u8],
+    version: usize,
+    counted: Result<usize, E>,
+) -> Result<Table, E>
+    requires { IfOk counted (λ n. n ≤ 999) }
+    ensures refused { (e : E) → counted ≡ Err e → result ≡ Err e }
+    ensures set { (n : ℕ) → counted ≡ Ok n → Came E.from_gives (tabled (setting n t.held name.now version)) result }
 {
     let mut held = t.held;
-    let number = lent::set(&mut held, name, version, before, n);
-    let table = Table { held, size: 32 };
-    Changed { number, table }
+    match lent::set(&mut held, name, version, counted) {
+        Ok(()) => Ok(Table { held, size: 32 }),
+        Err(e) => Err(e),
+    }
 }
 
-// Finds a mark in the table of an archive of n versions, unless the call is refused already.
-pub fn find<'a>(t: Table, name: &'a [u8], before: u32, n: usize) -> Found
-    ensures { result ≡ found_after before (finding n t.held name.now) }
+// Finds the version of a mark in the table of an archive whose versions were counted: where that is refused, so is this.
+pub fn find<'a, E: From<Refusal>>(
+    t: Table,
+    name: &'a [u8],
+    counted: Result<usize, E>,
+) -> Result<usize, E>
+    ensures refused { (e : E) → counted ≡ Err e → result ≡ Err e }
+    ensures found { (n : ℕ) → counted ≡ Ok n → Came E.from_gives (version_in (finding n t.held name.now)) result }
 {
     let held = t.held;
-    lent::find(&held, name, before, n)
+    lent::find(&held, name, counted)
 }
 
-// Drops the marks of versions later than i from the table of an archive of n versions, unless the call is refused already.
-pub fn drop_later(t: Table, before: u32, n: usize, i: usize) -> Changed
-    ensures { (result.number ≡ number_after before (dropping n t.held i))
-        × (result.table.held ≡ table_after before (dropping n t.held i) t.held) }
+// Drops the marks of versions later than i from the table of an archive whose versions were counted: where that is refused, so is this.
+pub fn drop_later<E: From<Refusal>>(
+    t: Table,
+    counted: Result<usize, E>,
+    i: usize,
+) -> Result<Table, E>
+    ensures refused { (e : E) → counted ≡ Err e → result ≡ Err e }
+    ensures dropped { (n : ℕ) → counted ≡ Ok n → Came E.from_gives (tabled (dropping n t.held i)) result }
 {
     let mut held = t.held;
-    let number = lent::drop_later(&mut held, before, n, i);
-    let table = Table { held, size: 32 };
-    Changed { number, table }
+    match lent::drop_later(&mut held, counted, i) {
+        Ok(()) => Ok(Table { held, size: 32 }),
+        Err(e) => Err(e),
+    }
 }

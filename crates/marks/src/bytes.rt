@@ -1,17 +1,10 @@
 // A table as 608 bytes, as C passes it: per entry 16 of name, one of its length, two of version, low byte first.
-ghost use Rattle.std.specs.Prelude.{◌≡◌, ◌+◌, ◌*◌, ◌<◌, ◌≤◌, length, drop};
+ghost use Rattle.std.specs.Prelude.{◌≡◌, ◌+◌, ◌<◌, ◌≤◌, length, drop};
 ghost use Rattle.std.proofs.Math.Seq.{paste};
 ghost use Rattle.marks.specs.Marks.{entry_bytes, table_bytes, mark_of};
 ghost use Rattle.marks.specs.Passed.{LendsAs, unreadable};
 
 use crate::{Mark, Table};
-
-// A number of two bytes, the low one first.
-fn word(lo: u8, hi: u8) -> u16
-    ensures { result ≡ lo + 256 * hi }
-{
-    (hi as u16) * 256 + (lo as u16)
-}
 
 // The entry in the 19 bytes from a place on.
 fn entry_at(s: &[u8], at: usize) -> Mark
@@ -19,15 +12,11 @@ fn entry_at(s: &[u8], at: usize) -> Mark
     ensures { result ≡ mark_of (drop at s.now) }
 {
     let mut name = [0u8; 16];
-    let mut i = 0;
-    while i < 16 {
-        name[i] = s[at + i];
-        i += 1;
-    }
+    name.copy_from_slice(&s[at..at + 16]);
     Mark {
         name,
         len: s[at + 16],
-        version: word(s[at + 17], s[at + 18]),
+        version: u16::from_le_bytes([s[at + 17], s[at + 18]]),
     }
 }
 
@@ -35,12 +24,11 @@ fn entry_at(s: &[u8], at: usize) -> Mark
 fn no_table() -> Table
     ensures { result ≡ unreadable }
 {
-    let m = Mark {
-        name: [0; 16],
+    let wrong = Mark {
         len: 255,
-        version: 0,
+        ..Mark::UNUSED
     };
-    let held = [m; 32];
+    let held = [wrong; 32];
     Table { held, size: 0 }
 }
 
@@ -51,16 +39,9 @@ pub fn table_from(s: &[u8]) -> Table
     if s.len() != 608 {
         return no_table();
     }
-    let m = Mark {
-        name: [0; 16],
-        len: 0,
-        version: 0,
-    };
-    let mut held = [m; 32];
-    let mut i = 0;
-    while i < 32 {
+    let mut held = [Mark::UNUSED; 32];
+    for i in 0..32 {
         held[i] = entry_at(s, i * 19);
-        i += 1;
     }
     Table { held, size: 32 }
 }
@@ -70,14 +51,9 @@ fn put_entry(m: Mark, out: &mut [u8], at: usize)
     requires { (at + 19 ≤ length out.old) × (at < 4096) }
     ensures { (out.new ≡ paste out.old at (entry_bytes m) 19) × (length (entry_bytes m) ≡ 19) }
 {
-    let mut j = 0;
-    while j < 16 {
-        out[at + j] = m.name[j];
-        j += 1;
-    }
+    out[at..at + 16].copy_from_slice(&m.name);
     out[at + 16] = m.len;
-    out[at + 17] = (m.version % 256) as u8;
-    out[at + 18] = (m.version / 256) as u8;
+    out[at + 17..at + 19].copy_from_slice(&m.version.to_le_bytes());
 }
 
 // Writes the 608 bytes of a table.
@@ -85,10 +61,7 @@ pub fn put_table(t: Table, out: &mut [u8])
     requires { length out.old ≡ 608 }
     ensures { out.new ≡ table_bytes t.held }
 {
-    let mut i = 0;
-    while i < 32 {
-        let m = t.held[i];
-        put_entry(m, out, i * 19);
-        i += 1;
+    for i in 0..32 {
+        put_entry(t.held[i], out, i * 19);
     }
 }

@@ -8,14 +8,7 @@ use crate::{Mark, Table};
 pub fn blank(n: usize) -> Table
     ensures { result ≡ blank_of n }
 {
-    let m = Mark {
-        name: [0; 16],
-        len: 0,
-        version: 0,
-    };
-    let held = [m; 32];
-    if n == 32 {
-        return Table { held, size: 32 };
-    }
-    Table { held, size: 0 }
+    let held = [Mark::UNUSED; 32];
+    let size = if n == 32 { 32 } else { 0 };
+    Table { held, size }
 }

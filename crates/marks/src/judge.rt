@@ -2,135 +2,72 @@
 ghost use Rattle.std.specs.Prelude.{◌≡◌, map, ◌≤◌, length, take, drop};
 ghost use Rattle.xml.specs.Bytes.{all, distinct, same};
 ghost use Rattle.marks.specs.Marks.{name_of, same_mark, unused, marks_in, number};
-ghost use Rattle.marks.specs.Judging.{right_at, padded, is_entry, used_in, place_in, judged, lent_of};
+ghost use Rattle.marks.specs.Judging.{padded, is_entry, used_in, place_in, placed, judged, lent_of};
 
 use crate::{Mark, Table};
+use keys::refusal::Refusal;
 use xml::class::is_name_byte;
 
-// How many marks a table holds, if it is legal.
-#[derive(Clone, Copy)]
-pub enum Judged {
-    Marks(usize),
-    Illegal,
-}
-
-// Byte j of an entry whose name has k bytes is right: a name byte, or zero past the name.
-fn is_right(k: usize, j: usize, b: u8) -> bool
-    ensures { result ≡ right_at k j b }
-{
-    if j < k {
-        return is_name_byte(b);
+impl Mark {
+    // The bytes of the name: never more than 16.
+    fn name_bytes(&self) -> &[u8]
+        ensures { result.now ≡ name_of self.now }
+    {
+        let len = usize::from(self.len).min(16);
+        &self.name[..len]
     }
-    b == 0
-}
 
-// The first k bytes of an entry are name bytes, and the others zero.
-fn is_padded(m: Mark, k: usize) -> bool
-    ensures { result ≡ padded k m.name }
-{
-    let mut j = 0;
-    while j < 16 {
-        let b = m.name[j];
-        if !is_right(k, j, b) {
+    // The entry holds no mark: it is all zero.
+    fn is_unused(&self) -> bool
+        ensures { result ≡ same_mark unused self.now }
+    {
+        *self == Mark::UNUSED
+    }
+
+    // Two entries have the same name.
+    fn has_name_of(&self, other: &Mark) -> bool
+        ensures { result ≡ same (name_of self.now) (name_of other.now) }
+    {
+        self.name_bytes() == other.name_bytes()
+    }
+
+    // The bytes of the name are name bytes, and the others zero.
+    fn is_padded(&self) -> bool
+        ensures { result ≡ padded self.now.len self.now.name }
+    {
+        let name = self.name_bytes();
+        name.iter().all(|b| is_name_byte(*b)) && self.name[name.len()..].iter().all(|b| *b == 0)
+    }
+
+    // The entry is that of a legal mark, of an archive of n versions.
+    fn is_entry(&self, n: usize) -> bool
+        ensures { result ≡ is_entry n self.now }
+    {
+        let version = usize::from(self.version);
+        if self.len < 1 || 16 < self.len {
             return false;
         }
-        j += 1;
-    }
-    true
-}
-
-// An entry is all zero.
-fn is_unused(m: Mark) -> bool
-    ensures { result ≡ same_mark unused m }
-{
-    if m.len != 0 {
-        return false;
-    }
-    if m.version != 0 {
-        return false;
-    }
-    is_padded(m, 0)
-}
-
-// An entry is that of a legal mark, of an archive of n versions.
-fn is_entry(m: Mark, n: usize) -> bool
-    ensures { result ≡ is_entry n m }
-{
-    let k = m.len as usize;
-    if k < 1 {
-        return false;
-    }
-    if 16 < k {
-        return false;
-    }
-    let v = m.version as usize;
-    if v < 1 {
-        return false;
-    }
-    if n < v {
-        return false;
-    }
-    is_padded(m, k)
-}
-
-// How many bytes the name of an entry has: never more than 16.
-fn name_len(m: Mark) -> usize
-    ensures { (result ≡ length (name_of m)) × (result ≤ 16) }
-{
-    let k = m.len as usize;
-    if 16 < k {
-        return 16;
-    }
-    k
-}
-
-// Two entries have the same name.
-fn same_name(a: Mark, b: Mark) -> bool
-    ensures { result ≡ same (name_of a) (name_of b) }
-{
-    let k = name_len(a);
-    if k != name_len(b) {
-        return false;
-    }
-    let mut j = 0;
-    while j < k {
-        if a.name[j] != b.name[j] {
+        if version < 1 || n < version {
             return false;
         }
-        j += 1;
+        self.is_padded()
     }
-    true
 }
 
-// The place of the first of u entries that has the name of m, or u.
-pub fn place_of(t: Table, m: Mark, u: usize) -> usize
+// The place of the first of u entries that has the name of m.
+pub fn place_of(t: Table, m: Mark, u: usize) -> Option<usize>
     requires { u ≤ 32 }
-    ensures { result ≡ place_in (name_of m) (map name_of (take u t.held)) }
+    ensures { result ≡ placed (place_in (name_of m) (map name_of (take u t.held))) u }
 {
-    let mut i = 0;
-    while i < u {
-        let e = t.held[i];
-        if same_name(m, e) {
-            return i;
-        }
-        i += 1;
-    }
-    u
+    t.held[..u].iter().position(|e| m.has_name_of(e))
 }
 
 // How many entries there are before the first of length 0.
 fn used(t: Table) -> usize
     ensures { (result ≡ used_in t.held) × (result ≤ 32) }
 {
-    let mut i = 0;
-    while i < 32 {
-        let e = t.held[i];
-        if e.len == 0 {
-            return i;
-        }
-        i += 1;
-    }
-    32
+    let end = t.held.iter().position(|e| e.len == 0);
+    end.unwrap_or(32)
 }
 
 // The first u entries are those of legal marks, of an archive of n versions.
@@ -138,15 +75,7 @@ fn are_entries(t: Table, u: usize, n: usize) -> bool
     requires { u ≤ 32 }
     ensures { result ≡ all (is_entry n) (take u t.held) }
 {
-    let mut i = 0;
-    while i < u {
-        let e = t.held[i];
-        if !is_entry(e, n) {
-            return false;
-        }
-        i += 1;
-    }
-    true
+    t.held[..u].iter().all(|e| e.is_entry(n))
 }
 
 // The entries after the first u are unused.
@@ -154,15 +83,7 @@ fn are_unused(t: Table, u: usize) -> bool
     requires { u ≤ 32 }
     ensures { result ≡ all (same_mark unused) (drop u t.held) }
 {
-    let mut i = u;
-    while i < 32 {
-        let e = t.held[i];
-        if !is_unused(e) {
-            return false;
-        }
-        i += 1;
-    }
-    true
+    t.held[u..].iter().all(|e| e.is_unused())
 }
 
 // No two of the first u entries have the same name: each is compared with those after it.
@@ -170,44 +91,35 @@ fn are_distinct(t: Table, u: usize) -> bool
     requires { u ≤ 32 }
     ensures { result ≡ distinct same (map name_of (take u t.held)) }
 {
-    let mut i = 0;
-    let mut j = 1;
-    while i < u {
-        if u <= j {
-            i += 1;
-            j = i + 1;
-            continue;
-        }
-        let a = t.held[i];
-        let b = t.held[j];
-        if same_name(a, b) {
+    for i in 0..u {
+        let e = t.held[i];
+        if t.held[i + 1..u].iter().any(|later| e.has_name_of(later)) {
             return false;
         }
-        j += 1;
     }
     true
 }
 
-// How many marks a table holds that is lent with an archive of n versions, or that it is illegal.
-pub fn judge(t: Table, n: usize) -> Judged
+// How many marks a table holds that is lent with an archive of n versions; or it is refused, illegal.
+pub fn judge(t: Table, n: usize) -> Result<usize, Refusal>
     requires { t.size ≤ 32 }
     ensures { result ≡ judged n (lent_of t) }
 {
     let size = t.size;
     if size != 32 {
-        return Judged::Illegal;
+        return Err(Refusal::TableIllegal);
     }
     let u = used(t);
     if !are_entries(t, u, n) {
-        return Judged::Illegal;
+        return Err(Refusal::TableIllegal);
     }
     if !are_distinct(t, u) {
-        return Judged::Illegal;
+        return Err(Refusal::TableIllegal);
     }
     if !are_unused(t, u) {
-        return Judged::Illegal;
+        return Err(Refusal::TableIllegal);
     }
-    Judged::Marks(u)
+    Ok(u)
 }
 
 // 17, or 0 for a legal table of an archive of n versions.
@@ -216,7 +128,7 @@ pub fn check(t: Table, n: usize) -> u32
     ensures { result ≡ number (marks_in n (lent_of t)) }
 {
     match judge(t, n) {
-        Judged::Marks(u) => 0,
-        Judged::Illegal => 17,
+        Ok(_) => 0,
+        Err(refusal) => refusal.number(),
     }
 }

@@ -1,11 +1,12 @@
 -- What is asked over a table of marks, and what is told of it.
-use Rattle.std.specs.Prelude.{ℕ, ◌≡◌, refl, Bool, true, false, List, [], ◌∷◌, ◌++◌, eqb, length, drop}
+use Rattle.std.specs.Prelude.{ℕ, ◌≡◌, refl, Bool, true, false, List, [], ◌∷◌, ◌++◌, eqb, length, drop, Result as Tried}
 use Rattle.std.proofs.Common.{arith, sym, ◌∙◌, ap, subst, eqb-true, ne_eqb}
 use Rattle.xml.specs.Bytes.{Bytes}
 use Rattle.keys.specs.Result.{Result, refused, ok}
 use Rattle.marks.specs.declared.Mark.{Mark}
 use Rattle.marks.specs.declared.Table.{Table}
-use Rattle.marks.specs.declared.change.Found.{Found}
+use Rattle.keys.specs.Meant.{number_in, length_in}
+use Rattle.keys.specs.declared.refusal.Refusal.{Refusal}
 use Rattle.marks.specs.Marks.{Named}
 use Rattle.versions.specs.Calls.{Answer, answer, Marked, FoundMark, found_mark, set_mark, find_mark, step_back, step_back_to_mark, out_after, work_after}
 use Rattle.archive.specs.declared.by_value.Marked.{Marked as MarkedTable}
@@ -53,17 +54,18 @@ pub record EndsAsked (a : Asked) (out work : List ℕ) (r : Told) (left cells : 
   pub table_is : r.table.held ≡ a.table
 
 -- the same of the list, whose result is the number alone
-pub record ListEnds (keys archive : Bytes) (table : List Mark) (work : List ℕ) (r : Found) (cells : List ℕ) : Type 0 where
-  pub number_is : r.number ≡ list_number (find_mark keys archive table [] (length work)).answer.number
-  pub size_is : r.length ≡ 0
-  pub version-is : r.version ≡ 0
+pub record ListEnds (keys archive : Bytes) (table : List Mark) (work : List ℕ) (number : ℕ) (cells : List ℕ) : Type 0 where
+  pub number_is : number ≡ list_number (find_mark keys archive table [] (length work)).answer.number
   pub work-is : cells ≡ work_after (listing (find_mark keys archive table [] (length work))) work
 
 abbrev pub told_of : MarkedTable → Told
-told_of m = record { number = m.number; length = m.length; version = 0; table = m.table }
+told_of m = record { number = number_in m.answer; length = length_in m.answer; version = 0; table = m.table }
 
-abbrev pub found_in : Found → Table → Told
-found_in f t = record { number = f.number; length = f.length; version = f.version; table = t }
+abbrev pub found_in : Tried ℕ Refusal → Table → Told
+found_in f t = record { number = number_in f; length = 0; version = length_in f; table = t }
+
+abbrev pub listed_in : ℕ → Table → Told
+listed_in n t = record { number = n; length = 0; version = 0; table = t }
 
 -- ---- a call without output leaves one as it was
 no_bytes : (s t : Bytes) → [] ≡ s ++ t → s ≡ []
@@ -90,11 +92,11 @@ module _ (keys archive : Bytes) (table : List Mark) (name : Bytes) (work : List 
   unfolding find_mark
   find-quiet = found-quiet _
 
-  pub find-asked : (out : List ℕ) {f : Found} {cells : List ℕ} (t : Table) → t.held ≡ table → FindEnds keys archive table name work f cells
+  pub find-asked : (out : List ℕ) {f : Tried ℕ Refusal} {cells : List ℕ} (t : Table) → t.held ≡ table → FindEnds keys archive table name work f cells
       → EndsAsked (keeping (find_mark keys archive table name (length work)) table) out work (found_in f t) out cells
   find-asked out t h e =
       record {
-        ends = record { number_is = e.number_is; size_is = e.size_is ∙ ap length (sym find-quiet); out-is = quiet-out _ out find-quiet; work-is = e.work-is };
+        ends = record { number_is = e.number_is; size_is = ap length (sym find-quiet); out-is = quiet-out _ out find-quiet; work-is = e.work-is };
         version-is = e.version-is;
         table_is = h;
       }
@@ -115,29 +117,28 @@ unfolding work_after
 same-cells a b work e = rw (e, work_after) refl
 
 module _ (keys archive : Bytes) (table : List Mark) (work : List ℕ) where
-  pub list-ends : {f : Found} {cells : List ℕ} {n : ℕ} → n ≡ list_number f.number → FindEnds keys archive table [] work f cells
-      → ListEnds keys archive table work (record { number = n; length = 0; version = 0 }) cells
-  list-ends l e =
+  pub list-ends : {f : Tried ℕ Refusal} {cells : List ℕ} {n k : ℕ} → n ≡ list_number k → k ≡ number_in f → FindEnds keys archive table [] work f cells → ListEnds keys archive table work n cells
+  list-ends l q e =
       let s = find_mark keys archive table [] (length work) in
       let k = s.answer.number in
-      record { number_is = l ∙ ap list_number e.number_is; size_is = refl; version-is = refl; work-is = e.work-is ∙ same-cells s.answer (listing s) work (sym (number-15 (eqb k 15) k refl)) }
+      record { number_is = l ∙ ap list_number (q ∙ e.number_is); work-is = e.work-is ∙ same-cells s.answer (listing s) work (sym (number-15 (eqb k 15) k refl)) }
 
-  pub list-asked : (out : List ℕ) {f : Found} {cells : List ℕ} (t : Table) → t.held ≡ table → ListEnds keys archive table work f cells
-      → EndsAsked (record { answer = listing (find_mark keys archive table [] (length work)); version = 0; table = table }) out work (found_in f t) out cells
+  pub list-asked : (out : List ℕ) {n : ℕ} {cells : List ℕ} (t : Table) → t.held ≡ table → ListEnds keys archive table work n cells
+      → EndsAsked (record { answer = listing (find_mark keys archive table [] (length work)); version = 0; table = table }) out work (listed_in n t) out cells
   list-asked out t h e =
-      record { ends = record { number_is = e.number_is; size_is = e.size_is; out-is = quiet-out _ out refl; work-is = e.work-is }; version-is = e.version-is; table_is = h }
+      record { ends = record { number_is = e.number_is; size_is = refl; out-is = quiet-out _ out refl; work-is = e.work-is }; version-is = refl; table_is = h }
 
 -- ---- calls that change the table
-module _ (keys archive : Bytes) (table : List Mark) (name : Bytes) (i : ℕ) (out work : List ℕ) {m : MarkedTable} {cells : List ℕ} where
-  pub set-asked : SetEnds keys archive table name i work m.number m.length cells m.table.held
+module _ (keys archive : Bytes) (table : List Mark) (name : Bytes) (i : ℕ) (out work : List ℕ) (m : MarkedTable) {cells : List ℕ} where
+  pub set-asked : SetEnds keys archive table name i work (number_in m.answer) (length_in m.answer) cells m.table.held
       → EndsAsked (changing (set_mark keys archive table name i (length work))) out work (told_of m) out cells
   set-asked e = record { ends = quiet-ends _ out work e.ends; version-is = refl; table_is = e.table_is }
 
-  pub back-asked : {left : List ℕ} → BackEnds keys archive table i out work m.number m.length left cells m.table.held
+  pub back-asked : {left : List ℕ} → BackEnds keys archive table i out work (number_in m.answer) (length_in m.answer) left cells m.table.held
       → EndsAsked (changing (step_back keys archive table i (length out) (length work))) out work (told_of m) left cells
   back-asked e = record { ends = e.ends; version-is = refl; table_is = e.table_is }
 
-  pub named-asked : {left : List ℕ} → NamedEnds keys archive table name out work m.number m.length left cells m.table.held
+  pub named-asked : {left : List ℕ} → NamedEnds keys archive table name out work (number_in m.answer) (length_in m.answer) left cells m.table.held
       → EndsAsked (changing (step_back_to_mark keys archive table name (length out) (length work))) out work (told_of m) left cells
   named-asked e = record { ends = e.ends; version-is = refl; table_is = e.table_is }
 

@@ -1,11 +1,11 @@
 // The call that an order asks for.
 ghost use Rattle.std.specs.Prelude.{◌≡◌, length};
+ghost use Rattle.keys.specs.Meant.{number_in, length_in};
 ghost use Rattle.archive.specs.Giving.{Ends};
 ghost use Rattle.station.specs.Asked.{asked};
-ghost use Rattle.station.specs.AskedMarked.{told_of, found_in, list_number, ListEnds, asked_marked, EndsAsked};
+ghost use Rattle.station.specs.AskedMarked.{told_of, found_in, listed_in, list_number, ListEnds, asked_marked, EndsAsked};
 
 use crate::words::{Call, MarkCall};
-use archive::Answer;
 use archive::add::add_version;
 use archive::by_value::{Marked, find_mark, set_mark, step_back, step_back_to_mark};
 use archive::check_keys::check_keys;
@@ -13,8 +13,8 @@ use archive::found::found;
 use archive::history::give_history;
 use archive::longest::longest_history;
 use archive::retrieve::retrieve;
+use keys::refusal::Refusal;
 use marks::Table;
-use marks::change::Found;
 
 // The answer of a call over no table. `text` is the version or the address, where the call takes one.
 pub fn ask(
@@ -25,9 +25,9 @@ pub fn ask(
     i: usize,
     out: &mut [u8],
     work: &mut [u32],
-) -> Answer
+) -> Result<usize, Refusal>
     ensures { Ends (asked call keys.now archive.now text.now i (length out.old) (length work.old))
-        out.old work.old result.number result.length out.new work.new }
+        out.old work.old (number_in result) (length_in result) out.new work.new }
 {
     match call {
         Call::Check => check_keys(keys, work),
@@ -48,27 +48,59 @@ pub struct Told {
     pub table: Table,
 }
 
+// The number of a call's refusal, or 0.
+fn number(answer: Result<usize, Refusal>) -> u32
+    ensures { result ≡ number_in answer }
+{
+    match answer {
+        Ok(_) => 0,
+        Err(refusal) => refusal.number(),
+    }
+}
+
+// What a call gives, 0 where it is refused.
+fn given(answer: Result<usize, Refusal>) -> usize
+    ensures { result ≡ length_in answer }
+{
+    match answer {
+        Ok(n) => n,
+        Err(_) => 0,
+    }
+}
+
 // A call that may change the table finds no version.
 fn changed(m: Marked) -> Told
     ensures { result ≡ told_of m }
 {
     let table = m.table;
     Told {
-        number: m.number,
-        length: m.length,
+        number: number(m.answer),
+        length: given(m.answer),
         version: 0,
         table,
     }
 }
 
 // A call that finds a version leaves the table as it is.
-fn unchanged(f: Found, table: Table) -> Told
-    ensures { result ≡ found_in f table }
+fn unchanged(found: Result<usize, Refusal>, table: Table) -> Told
+    ensures { result ≡ found_in found table }
 {
     Told {
-        number: f.number,
-        length: f.length,
-        version: f.version,
+        number: number(found),
+        length: 0,
+        version: given(found),
+        table,
+    }
+}
+
+// So does a list, of which the number alone is told.
+fn listed(number: u32, table: Table) -> Told
+    ensures { result ≡ listed_in number table }
+{
+    Told {
+        number,
+        length: 0,
+        version: 0,
         table,
     }
 }
@@ -83,16 +115,12 @@ fn list_number(number: u32) -> u32
     number
 }
 
-// Whether the marks of a table can be listed.
-fn list(keys: &[u8], archive: &[u8], t: Table, work: &mut [u32]) -> Found
+// The number under which the list of a table's marks is refused, or 0.
+fn list(keys: &[u8], archive: &[u8], t: Table, work: &mut [u32]) -> u32
     ensures { ListEnds keys.now archive.now t.held work.old result work.new }
 {
-    let f = find_mark(keys, archive, t, b"", work);
-    Found {
-        number: list_number(f.number),
-        length: 0,
-        version: 0,
-    }
+    let found = find_mark(keys, archive, t, b"", work);
+    list_number(number(found))
 }
 
 // What is told of a call over a table. `name` is the mark's, where the call takes one.
@@ -112,7 +140,7 @@ pub fn ask_marked(
     match call {
         MarkCall::Set => changed(set_mark(keys, archive, t, name, i, work)),
         MarkCall::Find => unchanged(find_mark(keys, archive, t, name, work), t),
-        MarkCall::List => unchanged(list(keys, archive, t, work), t),
+        MarkCall::List => listed(list(keys, archive, t, work), t),
         MarkCall::Back => changed(step_back(keys, archive, t, i, out, work)),
         MarkCall::BackToMark => changed(step_back_to_mark(keys, archive, t, name, out, work)),
     }

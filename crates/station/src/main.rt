@@ -6,15 +6,15 @@ mod number;
 mod table;
 mod words;
 
-use archive::Answer;
 use ask::{Told, ask, ask_marked};
 use files::{say_failure, say_refusal, within};
+use keys::refusal::Refusal;
 use marks::bytes::table_from;
 use std::io;
 use table::{keep_table, list_marks, table_word};
 use words::{
     Call, MarkCall, Order, archive_word, file_word, index_word, keys_word, marked_index_word,
-    name_start, name_word, order_word, text_word, usage,
+    name_word, order_word, text_word, usage,
 };
 
 // Says so where standard output was not written, and answers whether it was.
@@ -35,12 +35,13 @@ fn give(rt: &HostRuntime, length: usize, out: &[u8]) -> bool {
 }
 
 // Writes the result of a call to standard output, or says its refusal.
-fn tell(rt: &HostRuntime, answer: Answer, out: &[u8]) {
-    if answer.number != 0 {
-        say_refusal(rt, answer.number);
-        return;
+fn tell(rt: &HostRuntime, answer: Result<usize, Refusal>, out: &[u8]) {
+    match answer {
+        Ok(length) => {
+            give(rt, length, out);
+        }
+        Err(refusal) => say_refusal(rt, refusal.number()),
     }
-    give(rt, answer.length, out);
 }
 
 // Writes a version's number, and LF.
@@ -75,149 +76,78 @@ fn tell_marked(rt: &HostRuntime, call: MarkCall, told: Told, table: &[u8], out: 
     }
 }
 
-// Asks a call without a table under a key list, on what the other words name; where one can't be read, that has been said.
-fn run_plain(
-    rt: &HostRuntime,
-    call: Call,
-    keys: &[u8],
-    archive: &mut [u8],
-    text: &mut [u8],
-    out: &mut [u8],
-    work: &mut [u32],
-) {
-    let old = archive_word(rt, call, archive);
-    if !old.done {
-        return;
-    }
-    let new = text_word(rt, call, text);
-    if !new.done {
-        return;
-    }
-    let index = index_word(rt, call);
-    if !index.valid {
-        return;
-    }
-    let a = old.length;
-    let t = new.length;
+// Fixed memory for what the words name, the result and the work cells: nothing is allocated. The buffer of a text, or of a table's file, is
+// one byte longer than that may be, so that a longer one is refused as such.
+#[derive(Drop)]
+struct Memory {
+    archive: [u8; 32769],
+    table: [u8; 609],
+    text: [u8; 16385],
+    out: [u8; 32768],
+    work: [u32; 16384],
+}
+
+// Asks a call without a table under a key list, on what the other words name; none where one can't be read, which has been said.
+fn run_plain(rt: &HostRuntime, call: Call, keys: &[u8], memory: &mut Memory) -> Option<()> {
+    let archive = archive_word(rt, call, &mut memory.archive)?;
+    let text = text_word(rt, call, &mut memory.text)?;
+    let i = index_word(rt, call)?;
     let answer = ask(
         call,
         keys,
-        &archive[..a],
-        &text[..t],
-        index.value,
-        out,
-        work,
+        archive,
+        text,
+        i,
+        &mut memory.out,
+        &mut memory.work,
     );
-    tell(rt, answer, out);
+    tell(rt, answer, &memory.out);
+    Some(())
 }
 
-// Asks over a table whose file has these bytes; a file of another length than 608 bytes is a table that is refused with 17.
-fn run_over(
-    rt: &HostRuntime,
-    call: MarkCall,
-    keys: &[u8],
-    archive: &[u8],
-    table: &[u8],
-    text: &mut [u8],
-    out: &mut [u8],
-    work: &mut [u32],
-) {
-    let word = name_word(rt, call, text);
-    let index = marked_index_word(rt, call);
-    if !index.valid {
-        return;
-    }
-    let end = word.length;
-    let start = name_start(call, end);
+// The same over a table; a file of another length than 608 bytes is a table that is refused with 17.
+fn run_marked(rt: &HostRuntime, call: MarkCall, keys: &[u8], memory: &mut Memory) -> Option<()> {
+    let archive = file_word(rt, 3, &mut memory.archive)?;
+    let table = table_word(rt, &mut memory.table)?;
+    let name = name_word(rt, call, &mut memory.text);
+    let i = marked_index_word(rt, call)?;
+    let lent = table_from(table);
     let told = ask_marked(
         call,
         keys,
         archive,
-        table_from(table),
-        &text[start..end],
-        index.value,
-        out,
-        work,
+        lent,
+        name,
+        i,
+        &mut memory.out,
+        &mut memory.work,
     );
-    tell_marked(rt, call, told, table, out);
-}
-
-// Asks over a table under a key list, on what the other words name.
-fn run_marked(
-    rt: &HostRuntime,
-    call: MarkCall,
-    keys: &[u8],
-    archive: &mut [u8],
-    text: &mut [u8],
-    out: &mut [u8],
-    work: &mut [u32],
-) {
-    let mut table = [0u8; 609];
-    let old = file_word(rt, 3, archive);
-    if !old.done {
-        return;
-    }
-    let lent = table_word(rt, &mut table);
-    if !lent.done {
-        return;
-    }
-    let a = old.length;
-    let n = lent.length;
-    run_over(rt, call, keys, &archive[..a], &table[..n], text, out, work);
-}
-
-// Asks what an order asks under a key list.
-fn run(
-    rt: &HostRuntime,
-    order: Order,
-    keys: &[u8],
-    archive: &mut [u8],
-    text: &mut [u8],
-    out: &mut [u8],
-    work: &mut [u32],
-) {
-    match order {
-        Order::Plain(call) => run_plain(rt, call, keys, archive, text, out, work),
-        Order::Marked(call) => run_marked(rt, call, keys, archive, text, out, work),
-        Order::Unknown => usage(rt),
-    }
+    tell_marked(rt, call, told, table, &memory.out);
+    Some(())
 }
 
 // Reads the key list, where one is taken, and asks.
-fn start(
-    rt: &HostRuntime,
-    order: Order,
-    keys: &mut [u8],
-    archive: &mut [u8],
-    text: &mut [u8],
-    out: &mut [u8],
-    work: &mut [u32],
-) {
-    let list = keys_word(rt, order, keys);
-    if list.done {
-        let n = list.length;
-        run(rt, order, &keys[..n], archive, text, out, work);
+fn run(rt: &HostRuntime, order: Order, memory: &mut Memory) -> Option<()> {
+    let mut keys = [0u8; 4097];
+    let keys = keys_word(rt, order, &mut keys)?;
+    match order {
+        Order::Plain(call) => run_plain(rt, call, keys, memory),
+        Order::Marked(call) => run_marked(rt, call, keys, memory),
     }
 }
 
-// The buffer of a text, or of a table's file, is one byte longer than that may be, so that a longer one is refused as such.
 fn main(rt: HostRuntime) {
-    let rt = &rt;
-    let mut keys = [0u8; 4097];
-    let mut text = [0u8; 16385];
-    let mut archive = [0u8; 32769];
-    let mut out = [0u8; 32768];
-    let mut work = [0u32; 16384];
-    match order_word(rt) {
-        Order::Unknown => usage(rt),
-        order => start(
-            rt,
-            order,
-            &mut keys,
-            &mut archive,
-            &mut text,
-            &mut out,
-            &mut work,
-        ),
+    let mut memory = Memory {
+        archive: [0; 32769],
+        table: [0; 609],
+        text: [0; 16385],
+        out: [0; 32768],
+        work: [0; 16384],
+    };
+    match order_word(&rt) {
+        None => usage(&rt),
+        Some(order) => {
+            let _ = run(&rt, order, &mut memory);
+        }
     }
 }

@@ -1,51 +1,27 @@
 // A version's number, as a word of decimal digits.
-ghost use Rattle.std.specs.Prelude.{◌+◌, ◌*◌, ◌≤◌, ◌≡◌};
+ghost use Rattle.std.specs.Prelude.{◌≡◌};
 ghost use Rattle.station.specs.Number.{digit_of, number_of};
 
-use xml::writer::least;
-
-// Whether a word is a number, and its value; 1,000 stands for all from there on, as no archive has such a version.
-#[derive(Clone, Copy)]
-pub struct Numeral {
-    pub valid: bool,
-    pub value: usize,
-}
-
-// A digit's value; 10 for a byte that is no digit.
-fn digit(b: u8) -> usize
-    ensures { (result ≡ digit_of b) × (result ≤ 10) }
+// A digit's value; none for a byte that is no digit.
+fn digit(b: u8) -> Option<usize>
+    ensures { result ≡ digit_of b }
 {
-    if b < 48 {
-        return 10;
+    match b {
+        b'0'..=b'9' => Some((b - b'0') as usize),
+        _ => None,
     }
-    if 57 < b {
-        return 10;
-    }
-    (b - 48) as usize
 }
 
-// The number that a word is.
-pub fn number(word: &[u8]) -> Numeral
+// The number that a word is, if it is one; 1,000 stands for all from there on, as no archive has such a version.
+pub fn number(word: &[u8]) -> Option<usize>
     ensures { result ≡ number_of word.now }
 {
-    if word.len() == 0 {
-        return Numeral {
-            valid: false,
-            value: 0,
-        };
+    if word.is_empty() {
+        return None;
     }
-    let mut value = 0;
-    let mut i = 0;
-    while i < word.len() {
-        let d = digit(word[i]);
-        if 9 < d {
-            return Numeral {
-                valid: false,
-                value: 0,
-            };
-        }
-        value = least(value * 10 + d, 1000);
-        i += 1;
+    let mut value: usize = 0;
+    for b in word {
+        value = (value * 10 + digit(*b)?).min(1000);
     }
-    Numeral { valid: true, value }
+    Some(value)
 }

@@ -1,23 +1,19 @@
 // The file of a table of marks, which word 4 names: 608 bytes, as C passes a table.
-ghost use Rattle.std.specs.Prelude.{◌≤◌, length};
+ghost use Rattle.std.specs.Prelude.{◌≤◌, length, IfSome};
 
 use crate::words::{file_word, short_word};
-use files::{Read, is_missing, replace_file, within};
+use files::{is_missing, replace_file, within};
 use marks::bytes::put_table;
 use marks::{Mark, Table};
 use std::io;
 
 // Reads the table's file, as far as buf goes, which is 608 zeros and one more: a missing file is a table of unused entries.
-pub fn table_word(rt: &HostRuntime, buf: &mut [u8]) -> Read
-    ensures { result.length ≤ length buf.new }
+pub fn table_word<'a>(rt: &HostRuntime, buf: &'a mut [u8; 609]) -> Option<&'a [u8]>
+    ensures { IfSome result (λ bytes. length bytes.now ≤ 609) }
 {
     let mut name = [0u8; 4096];
-    let n = short_word(rt, 4, &mut name);
-    if is_missing(rt, &name[..n]) {
-        return Read {
-            done: true,
-            length: within(608, buf),
-        };
+    if is_missing(rt, short_word(rt, 4, &mut name)) {
+        return Some(&buf[..608]);
     }
     file_word(rt, 4, buf)
 }
@@ -31,8 +27,8 @@ pub fn keep_table(rt: &HostRuntime, t: Table, old: &[u8]) {
         return;
     }
     let mut name = [0u8; 4096];
-    let n = short_word(rt, 4, &mut name);
-    replace_file(rt, b"station: ", &name[..n], &bytes);
+    let name = short_word(rt, 4, &mut name);
+    replace_file(rt, b"station: ", name, &bytes);
 }
 
 // Writes a mark's line: its name, a space and its version.
@@ -46,14 +42,11 @@ fn list_mark(rt: &HostRuntime, m: Mark) -> io::Result<()> {
 
 // Writes the marks of a table, in order of setting; answers whether that went well.
 pub fn list_marks(rt: &HostRuntime, t: Table) -> io::Result<()> {
-    let mut i = 0;
-    while i < 32 {
-        let m = t.held[i];
+    for m in t.held {
         if m.len == 0 {
-            return Ok(());
+            break;
         }
         list_mark(rt, m)?;
-        i += 1;
     }
     Ok(())
 }

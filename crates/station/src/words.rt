@@ -1,8 +1,8 @@
 // The words of the command line, and what is said where they are wrong.
-ghost use Rattle.std.specs.Prelude.{◌≤◌, length};
+ghost use Rattle.std.specs.Prelude.{◌≤◌, length, IfSome};
 
-use crate::number::{Numeral, number};
-use files::{Read, read_file, say, say_failure};
+use crate::number::number;
+use files::{read_file, say, say_failure};
 use std::env::FillError;
 use std::io;
 use std::rt::Env;
@@ -38,91 +38,53 @@ pub enum MarkCall {
 pub enum Order {
     Plain(Call),
     Marked(MarkCall),
-    Unknown,
 }
+
+// How the command is called.
+const USAGE: &str = "usage: station check KEYS
+       station found KEYS VERSION
+       station add KEYS ARCHIVE VERSION
+       station retrieve KEYS ARCHIVE I
+       station history KEYS ARCHIVE ADDRESS
+       station mark KEYS ARCHIVE MARKS NAME I
+       station find KEYS ARCHIVE MARKS NAME
+       station marks KEYS ARCHIVE MARKS
+       station back KEYS ARCHIVE MARKS I
+       station back KEYS ARCHIVE MARKS @NAME
+       station longest N
+";
 
 // Says how the command is called.
 pub fn usage(rt: &HostRuntime) {
-    say(rt, b"usage: station check KEYS\n");
-    say(rt, b"       station found KEYS VERSION\n");
-    say(rt, b"       station add KEYS ARCHIVE VERSION\n");
-    say(rt, b"       station retrieve KEYS ARCHIVE I\n");
-    say(rt, b"       station history KEYS ARCHIVE ADDRESS\n");
-    say(rt, b"       station mark KEYS ARCHIVE MARKS NAME I\n");
-    say(rt, b"       station find KEYS ARCHIVE MARKS NAME\n");
-    say(rt, b"       station marks KEYS ARCHIVE MARKS\n");
-    say(rt, b"       station back KEYS ARCHIVE MARKS I\n");
-    say(rt, b"       station back KEYS ARCHIVE MARKS @NAME\n");
-    say(rt, b"       station longest N\n");
-}
-
-// Whether a word is this one.
-fn is_word(word: &[u8], wanted: &[u8]) -> bool {
-    word == wanted
-}
-
-// The call without a table that a first word gives, of so many words in all, the program's name among them.
-fn plain_order(word: &[u8], count: usize) -> Order {
-    if count == 3 {
-        if is_word(word, b"check") {
-            return Order::Plain(Call::Check);
-        }
-        if is_word(word, b"longest") {
-            return Order::Plain(Call::Longest);
-        }
-    }
-    if count == 4 {
-        if is_word(word, b"found") {
-            return Order::Plain(Call::Found);
-        }
-    }
-    if count != 5 {
-        return Order::Unknown;
-    }
-    if is_word(word, b"add") {
-        return Order::Plain(Call::Add);
-    }
-    if is_word(word, b"retrieve") {
-        return Order::Plain(Call::Retrieve);
-    }
-    if is_word(word, b"history") {
-        return Order::Plain(Call::History);
-    }
-    Order::Unknown
+    let _ = rt.eprint(USAGE);
 }
 
 // A step back, to a version's number or, where the last word starts with `@`, to the mark whose name follows.
-fn back_order(rt: &HostRuntime) -> Order {
+fn back_call(rt: &HostRuntime) -> MarkCall {
     let mut word = [0u8; 1];
     let _ = rt.arg(5, &mut word);
     if word[0] == b'@' {
-        return Order::Marked(MarkCall::BackToMark);
+        MarkCall::BackToMark
+    } else {
+        MarkCall::Back
     }
-    Order::Marked(MarkCall::Back)
 }
 
-// What a first word asks over a table.
-fn marked_order(rt: &HostRuntime, word: &[u8], count: usize) -> Order {
-    if count == 5 {
-        if is_word(word, b"marks") {
-            return Order::Marked(MarkCall::List);
-        }
-    }
-    if count == 7 {
-        if is_word(word, b"mark") {
-            return Order::Marked(MarkCall::Set);
-        }
-    }
-    if count != 6 {
-        return Order::Unknown;
-    }
-    if is_word(word, b"find") {
-        return Order::Marked(MarkCall::Find);
-    }
-    if is_word(word, b"back") {
-        return back_order(rt);
-    }
-    Order::Unknown
+// What a first word asks, of so many words in all, the program's name among them.
+fn order_of(rt: &HostRuntime, word: &[u8], count: usize) -> Option<Order> {
+    Some(match (count, word) {
+        (3, b"check") => Order::Plain(Call::Check),
+        (3, b"longest") => Order::Plain(Call::Longest),
+        (4, b"found") => Order::Plain(Call::Found),
+        (5, b"add") => Order::Plain(Call::Add),
+        (5, b"retrieve") => Order::Plain(Call::Retrieve),
+        (5, b"history") => Order::Plain(Call::History),
+        (5, b"marks") => Order::Marked(MarkCall::List),
+        (6, b"find") => Order::Marked(MarkCall::Find),
+        (6, b"back") => Order::Marked(back_call(rt)),
+        (7, b"mark") => Order::Marked(MarkCall::Set),
+        _ => return None,
+    })
 }
 
 // How many words the command line has, the program's name among them; 8 stands for all from there on, as no order has so many.
@@ -136,175 +98,127 @@ fn word_count(rt: &HostRuntime) -> usize {
     8
 }
 
-// The length of word i, which is put into buf; 0 where there is none, or where it is longer than buf.
-pub fn short_word(rt: &HostRuntime, i: usize, buf: &mut [u8]) -> usize
-    ensures { result ≤ length buf.new }
+// Word i, put into buf; none of its bytes where there is no such word, or where it is longer than buf.
+pub fn short_word<'a>(rt: &HostRuntime, i: usize, buf: &'a mut [u8]) -> &'a [u8]
+    ensures { length result.now ≤ length buf.old }
 {
-    rt.arg(i, buf).unwrap_or(0)
+    let n = rt.arg(i, buf).unwrap_or(0);
+    &buf[..n]
 }
 
-// The order of the command line.
-pub fn order_word(rt: &HostRuntime) -> Order {
+// The order of the command line, if it is one.
+pub fn order_word(rt: &HostRuntime) -> Option<Order> {
     let mut word = [0u8; 16];
-    let n = short_word(rt, 1, &mut word);
-    let count = word_count(rt);
-    match plain_order(&word[..n], count) {
-        Order::Unknown => marked_order(rt, &word[..n], count),
-        order => order,
-    }
+    order_of(rt, short_word(rt, 1, &mut word), word_count(rt))
 }
 
 // Why a word could not be taken, in the system's words.
 fn word_failure(error: FillError) -> io::Error {
-    match error {
-        FillError::NotPresent => io::Error::from_raw_os_error(NO_SUCH_WORD),
-        FillError::TooLong => io::Error::from_raw_os_error(NAME_TOO_LONG),
-    }
+    io::Error::from_raw_os_error(match error {
+        FillError::NotPresent => NO_SUCH_WORD,
+        FillError::TooLong => NAME_TOO_LONG,
+    })
 }
 
 // Reads the file that word i names, as far as buf goes; says why where it can't be read.
-pub fn file_word(rt: &HostRuntime, i: usize, buf: &mut [u8]) -> Read
-    ensures { result.length ≤ length buf.new }
+pub fn file_word<'a>(rt: &HostRuntime, i: usize, buf: &'a mut [u8]) -> Option<&'a [u8]>
+    ensures { IfSome result (λ bytes. length bytes.now ≤ length buf.old) }
 {
     let mut name = [0u8; 4096];
     match rt.arg(i, &mut name) {
         Ok(n) => read_file(rt, b"station: ", &name[..n], buf),
         Err(error) => {
             say_failure(rt, b"station: a file's name", &word_failure(error));
-            Read {
-                done: false,
-                length: 0,
-            }
+            None
         }
     }
 }
 
-// Reads the key list, of a call that takes one.
-fn plain_keys_word(rt: &HostRuntime, call: Call, buf: &mut [u8]) -> Read
-    ensures { result.length ≤ length buf.new }
-{
-    match call {
-        Call::Longest => Read {
-            done: true,
-            length: 0,
-        },
-        _ => file_word(rt, 2, buf),
-    }
-}
-
 // Reads the key list, of an order that takes one.
-pub fn keys_word(rt: &HostRuntime, order: Order, buf: &mut [u8]) -> Read
-    ensures { result.length ≤ length buf.new }
+pub fn keys_word<'a>(rt: &HostRuntime, order: Order, buf: &'a mut [u8]) -> Option<&'a [u8]>
+    ensures { IfSome result (λ bytes. length bytes.now ≤ length buf.old) }
 {
     match order {
-        Order::Plain(call) => plain_keys_word(rt, call, buf),
+        Order::Plain(Call::Longest) => Some(b""),
         _ => file_word(rt, 2, buf),
     }
 }
 
 // Reads the archive, of a call that takes one.
-pub fn archive_word(rt: &HostRuntime, call: Call, buf: &mut [u8]) -> Read
-    ensures { result.length ≤ length buf.new }
+pub fn archive_word<'a>(rt: &HostRuntime, call: Call, buf: &'a mut [u8]) -> Option<&'a [u8]>
+    ensures { IfSome result (λ bytes. length bytes.now ≤ length buf.old) }
 {
     match call {
-        Call::Add => file_word(rt, 3, buf),
-        Call::Retrieve => file_word(rt, 3, buf),
-        Call::History => file_word(rt, 3, buf),
-        _ => Read {
-            done: true,
-            length: 0,
-        },
+        Call::Add | Call::Retrieve | Call::History => file_word(rt, 3, buf),
+        _ => Some(b""),
     }
 }
 
 // Word i itself, an address or the name of a mark; of one that is longer than buf, its first bytes.
-fn word_at(rt: &HostRuntime, i: usize, buf: &mut [u8]) -> Read
-    ensures { result.length ≤ length buf.new }
+fn word_at<'a>(rt: &HostRuntime, i: usize, buf: &'a mut [u8]) -> &'a [u8]
+    ensures { length result.now ≤ length buf.old }
 {
     let length = match rt.arg(i, buf) {
         Ok(n) => n,
         Err(FillError::TooLong) => buf.len(),
         Err(FillError::NotPresent) => 0,
     };
-    Read { done: true, length }
+    &buf[..length]
 }
 
 // The version or the address, of a call that takes one.
-pub fn text_word(rt: &HostRuntime, call: Call, buf: &mut [u8]) -> Read
-    ensures { result.length ≤ length buf.new }
+pub fn text_word<'a>(rt: &HostRuntime, call: Call, buf: &'a mut [u8]) -> Option<&'a [u8]>
+    ensures { IfSome result (λ bytes. length bytes.now ≤ length buf.old) }
 {
     match call {
         Call::Found => file_word(rt, 3, buf),
         Call::Add => file_word(rt, 4, buf),
-        Call::History => word_at(rt, 4, buf),
-        _ => Read {
-            done: true,
-            length: 0,
-        },
+        Call::History => Some(word_at(rt, 4, buf)),
+        _ => Some(b""),
     }
 }
 
 // The name of a mark, after its `@` where it has one, of what takes one.
-pub fn name_word(rt: &HostRuntime, call: MarkCall, buf: &mut [u8]) -> Read
-    ensures { result.length ≤ length buf.new }
+pub fn name_word<'a>(rt: &HostRuntime, call: MarkCall, buf: &'a mut [u8]) -> &'a [u8]
+    ensures { length result.now ≤ length buf.old }
 {
     match call {
-        MarkCall::Set => word_at(rt, 5, buf),
-        MarkCall::Find => word_at(rt, 5, buf),
-        MarkCall::BackToMark => word_at(rt, 5, buf),
-        _ => Read {
-            done: true,
-            length: 0,
-        },
-    }
-}
-
-// Where the name starts in a word of n bytes: after its `@`, where it has one.
-pub fn name_start(call: MarkCall, n: usize) -> usize
-    ensures { result ≤ n }
-{
-    if n == 0 {
-        return 0;
-    }
-    match call {
-        MarkCall::BackToMark => 1,
-        _ => 0,
+        MarkCall::Set | MarkCall::Find => word_at(rt, 5, buf),
+        MarkCall::BackToMark => {
+            let word = word_at(rt, 5, buf);
+            &word[word.len().min(1)..]
+        }
+        _ => b"",
     }
 }
 
 // The number that word i is; says so where it is none.
-fn number_word(rt: &HostRuntime, i: usize) -> Numeral {
+fn number_word(rt: &HostRuntime, i: usize) -> Option<usize> {
     let mut word = [0u8; 4096];
-    let n = short_word(rt, i, &mut word);
-    let got = number(&word[..n]);
-    if !got.valid {
+    let word = short_word(rt, i, &mut word);
+    let got = number(word);
+    if got.is_none() {
         say(rt, b"station: not a number: ");
-        say(rt, &word[..n]);
+        say(rt, word);
         say(rt, b"\n");
     }
     got
 }
 
 // The version's number, of a call that takes one; 0 of others.
-pub fn index_word(rt: &HostRuntime, call: Call) -> Numeral {
+pub fn index_word(rt: &HostRuntime, call: Call) -> Option<usize> {
     match call {
         Call::Retrieve => number_word(rt, 4),
         Call::Longest => number_word(rt, 2),
-        _ => Numeral {
-            valid: true,
-            value: 0,
-        },
+        _ => Some(0),
     }
 }
 
 // The same, over a table.
-pub fn marked_index_word(rt: &HostRuntime, call: MarkCall) -> Numeral {
+pub fn marked_index_word(rt: &HostRuntime, call: MarkCall) -> Option<usize> {
     match call {
         MarkCall::Set => number_word(rt, 6),
         MarkCall::Back => number_word(rt, 5),
-        _ => Numeral {
-            valid: true,
-            value: 0,
-        },
+        _ => Some(0),
     }
 }

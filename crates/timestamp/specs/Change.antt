@@ -1,5 +1,5 @@
 -- The text of a changed set, from the text of the set: its first bytes, and then a tail.
-use Prim.Native.Nat.{ℕ, zero, suc, ◌+◌, ◌≤◌, ◌<◌}
+use Prim.Native.Nat.{ℕ, ◌+◌, ◌≤◌, ◌<◌}
 use Rattle.std.specs.Prelude.{◌≡◌, Bool, ◌||◌, length, take}
 use Rattle.std.proofs.Math.Path.{refl, sym, ap}
 use Rattle.std.proofs.Common.{◌∙◌, length-append, take_at}
@@ -21,19 +21,27 @@ use Rattle.timestamp.specs.Digits as digits
 use Rattle.timestamp.specs.Parse.{accepted, parsed}
 use Rattle.timestamp.specs.Write.{run-same, run_long}
 use Rattle.timestamp.specs.RunAt.{RunAt}
+use Rattle.timestamp.specs.declared.change.Tail.{Tail}
+use Rattle.timestamp.specs.declared.change.Tail.TheVariants.{Nothing, Dashed, Listed, Alone}
 use Rattle.timestamp.specs.Place.{IsSetTo, lead, Place, LastStart, Reads, text-cons, from_place, split-place, asc-swap, text-swap, runs_append, place_set, place-begins, read-place, last-alone}
 
 -- what comes after the bytes that stay: nothing, the number v after a dash, v after a comma, or v alone
-abbrev pub tail_text : ℕ → ℕ → Bytes
-tail_text zero v = []
-tail_text (suc zero) v = 45 ∷ decimal v
-tail_text (suc (suc zero)) v = 44 ∷ decimal v
-tail_text (suc (suc (suc k))) v = decimal v
+abbrev pub tail_text : Tail → ℕ → Bytes
+tail_text Nothing v = []
+tail_text Dashed v = 45 ∷ decimal v
+tail_text Listed v = 44 ∷ decimal v
+tail_text Alone v = decimal v
+
+-- nothing stays and nothing comes after
+abbrev pub is_void : ℕ → Tail → Bool
+is_void to Nothing = eqb to 0
+is_void to Dashed = false
+is_void to Listed = false
+is_void to Alone = false
 
 -- the text of the changed set is the first `to` bytes of the set's own, and then the tail with v
-pub record Changes (l : Bytes) (f : (ℕ → Bool) → ℕ → Bool) (v to tail : ℕ) : Type 0 where
+pub record Changes (l : Bytes) (f : (ℕ → Bool) → ℕ → Bool) (v to : ℕ) (tail : Tail) : Type 0 where
   pub inside : to ≤ length l
-  pub known : tail < 4
   pub becomes : (s : ℕ → Bool) → parsed l ≡ accepted s → text_of (f s) ≡ take to l ++ tail_text tail v
 
 -- ---- a run alone at the end
@@ -77,12 +85,11 @@ module _ {l : Bytes} {at : ℕ} (c : Place l at) (end : c.after ≡ []) (n : ℕ
       ∙ or_swap (eqb u (n + 1)) (in_runs c.before u) (in_runs (c.q ∷ []) u) ∙ ap (λ (y : Bool). in_runs c.before u || y) (g u))
 
   -- after a gap
-  pub grown-gap : b < n → Changes l (adding (n + 1)) (n + 1) (length l) 2
+  pub grown-gap : b < n → Changes l (adding (n + 1)) (n + 1) (length l) Listed
   unfolding any digits.tail_text
   grown-gap k =
       record {
         inside = omega arith;
-        known = omega arith;
         becomes = λ s e. added c.q ((n + 1, n + 1) ∷ []) (λ m x. (x.0, x.1, x.2, (omega arith, omega arith, omega arith, tt))) same s e
             ∙ ap (λ (t : Bytes). lead c.before ++ t) (text-cons 0 c.q ((n + 1, n + 1) ∷ []) (bounds.0, bounds.1, bounds.2, (omega arith, omega arith, omega arith, tt))
             ∙ ap (λ (t : Bytes). write_run c.q ++ 44 ∷ t) alone)
@@ -114,22 +121,20 @@ module _ {l : Bytes} {at : ℕ} (c : Place l at) (end : c.after ≡ []) (n : ℕ
         ∙ ap (λ (t : Bytes). lead c.before ++ t) (run_end 0 (a, n + 1) (bounds.0, omega (arith, bounds.1), omega arith, tt) ∙ run_long a (n + 1) (λ z. omega (arith, z, bounds.1)))
 
     -- which is one number
-    pub grown-one : a ≡ b → Changes l (adding (n + 1)) (n + 1) (length l) 1
+    pub grown-one : a ≡ b → Changes l (adding (n + 1)) (n + 1) (length l) Dashed
     grown-one z =
         record {
           inside = omega arith;
-          known = omega arith;
           becomes = λ s e. grown-on s e ∙ ap (λ (t : Bytes). lead c.before ++ t) (append_assoc (decimal a) (45 ∷ []) (decimal (n + 1)))
               ∙ sym (append_assoc (lead c.before) (decimal a) (45 ∷ decimal (n + 1)))
               ∙ ap (λ (t : Bytes). t ++ 45 ∷ decimal (n + 1)) (sym (take-length l ∙ is-text ∙ ap (λ (t : Bytes). lead c.before ++ t) (run-same a b z)));
         }
 
     -- or more
-    pub grown-more : (a ≡ b → ⊥) → Changes l (adding (n + 1)) (n + 1) (at + length (decimal a) + 1) 3
+    pub grown-more : (a ≡ b → ⊥) → Changes l (adding (n + 1)) (n + 1) (at + length (decimal a) + 1) Alone
     grown-more z =
         record {
           inside = omega (arith, ap length is, length-append front (decimal b), long);
-          known = omega arith;
           becomes = λ s e. grown-on s e ∙ sym (append_assoc (lead c.before) (decimal a ++ 45 ∷ []) (decimal (n + 1)))
               ∙ ap (λ (t : Bytes). t ++ decimal (n + 1)) (sym (ap (take (at + length (decimal a) + 1)) is ∙ take_at front (decimal b) (at + length (decimal a) + 1) long));
         }
@@ -157,13 +162,13 @@ module _ {l : Bytes} {at lo hi to n : ℕ} (w : IsSetTo n l) (b : LastStart l at
   most : hi ≤ n
   most = omega (arith, reads.last, last-most last-place (last-alone last-place b) n w h)
 
-  pub read-gap : hi < n → Changes l (adding (n + 1)) (n + 1) (length l) 2
+  pub read-gap : hi < n → Changes l (adding (n + 1)) (n + 1) (length l) Listed
   read-gap k = grown-gap last-place (last-alone last-place b) n w h (omega (arith, reads.last))
 
-  pub read_one : n ≤ hi → lo ≡ hi → Changes l (adding (n + 1)) (n + 1) (length l) 1
+  pub read_one : n ≤ hi → lo ≡ hi → Changes l (adding (n + 1)) (n + 1) (length l) Dashed
   read_one k e = grown-one last-place (last-alone last-place b) n w h (omega (arith, reads.last, most)) (sym reads.first ∙ e ∙ reads.last)
 
-  pub read_more : n ≤ hi → (lo ≡ hi → ⊥) → (d : ℕ) → d ≡ length (decimal lo) → Changes l (adding (n + 1)) (n + 1) (at + d + 1) 3
+  pub read_more : n ≤ hi → (lo ≡ hi → ⊥) → (d : ℕ) → d ≡ length (decimal lo) → Changes l (adding (n + 1)) (n + 1) (at + d + 1) Alone
   read_more k e d i =
       rw (i ∙ ap (λ (m : ℕ). length (decimal m)) reads.first)
       (grown-more last-place (last-alone last-place b) n w h (omega (arith, reads.last, most)) (λ z. e (reads.first ∙ z ∙ sym reads.last)))

@@ -19,6 +19,7 @@ use Rattle.timestamp.specs.Write.{run-same, run_long}
 use Rattle.timestamp.specs.Place.{lead, Reads, text-cons, from_place, split-place, asc-swap, text-swap, runs_append, place_set}
 use Rattle.timestamp.specs.Narrow.{Narrowed, before-out, none_after}
 use Rattle.timestamp.specs.Change.{Changes, run_end}
+use Rattle.timestamp.specs.declared.change.Tail.TheVariants.{Nothing, Dashed}
 
 module _ {l : Bytes} {i at : ℕ} (n : Narrowed l i at) where
   abbrev before : List (ℕ × ℕ)
@@ -75,11 +76,10 @@ module _ {l : Bytes} {i at : ℕ} (n : Narrowed l i at) where
 
   module _ {lo hi to : ℕ} (r : Reads (a, b) after l lo hi to) where
     -- no number stays
-    pub cut-none : i < lo → Changes l (cut_at i) i 0 0
+    pub cut-none : i < lo → Changes l (cut_at i) i 0 Nothing
     cut-none h =
         record {
           inside = omega arith;
-          known = omega arith;
           becomes = λ s e. ap text_of (fun_ext (λ u. not_so (s u && leb u i) (λ t. out s e u (and_left (s u) (leb u i) t) (leb-true u i (and_right (s u) (leb u i) t))))) ∙ text-none;
         }
       where
@@ -89,11 +89,10 @@ module _ {l : Bytes} {i at : ℕ} (n : Narrowed l i at) where
             (λ x. or-by (in_run u (a, b)) (in_runs after u) x (λ y. let z = run_in_lem u a b y in omega (arith, r.first)) (λ y. clash (sym y ∙ none_after n u k)))
 
     -- the run stays whole
-    pub cut-whole : lo ≤ i → hi ≤ i → Changes l (cut_at i) i to 0
+    pub cut-whole : lo ≤ i → hi ≤ i → Changes l (cut_at i) i to Nothing
     cut-whole h k =
         record {
           inside = r.onward;
-          known = omega arith;
           becomes = λ s e. cut-text b bounds.1 (omega arith) (omega (arith, r.last)) (λ u x y. x) s e
               ∙ sym (append-nil (take to l) ∙ ap (take to) is-text ∙ take_at (lead before ++ write_run (a, b)) (tail_text after) to long);
         }
@@ -115,20 +114,18 @@ module _ {l : Bytes} {i at : ℕ} (n : Narrowed l i at) where
       in-text : at + d ≤ length l
       in-text = omega (arith, ap length is, length-append (lead before ++ decimal a) (45 ∷ (decimal b ++ tail_text after)), long)
 
-      pub cut-first : lo ≡ i → Changes l (cut_at i) i (at + d) 0
+      pub cut-first : lo ≡ i → Changes l (cut_at i) i (at + d) Nothing
       cut-first z =
           record {
             inside = in-text;
-            known = omega arith;
             becomes = λ s e. cut-text a (omega arith) bounds.1 (omega (arith, r.first)) (λ u x y. omega (arith, r.first)) s e
                 ∙ ap (λ (t : Bytes). lead before ++ t) (run-same a a refl) ∙ sym (append-nil (take (at + d) l) ∙ kept);
           }
 
-      pub cut_inside : (lo ≡ i → ⊥) → Changes l (cut_at i) i (at + d) 1
+      pub cut_inside : (lo ≡ i → ⊥) → Changes l (cut_at i) i (at + d) Dashed
       cut_inside z =
           record {
             inside = in-text;
-            known = omega arith;
             becomes = λ s e. cut-text i (omega (arith, r.first)) (omega (arith, r.last)) (omega arith) (λ u x y. y) s e
                 ∙ ap (λ (t : Bytes). lead before ++ t) (run_long a i (λ y. z (r.first ∙ y)))
                 ∙ shift ∙ ap (λ (t : Bytes). t ++ 45 ∷ decimal i) (sym kept);

@@ -1,8 +1,8 @@
 -- The least member of a set from a number on: what determines it, and how words give it, by the lowest bit of the first that is not 0.
-use Prim.Native.Nat.{ℕ, zero, suc, ◌+◌, ◌-◌, ◌*◌, ◌/◌, ◌%◌, ◌^◌, ◌≤◌, ◌<◌}
-use Rattle.std.specs.Prelude.{◌≡◌, List, Bool, eqb, get_or}
+use Prim.Native.Nat.{ℕ, zero, suc, ◌+◌, ◌-◌, ◌*◌, ◌/◌, ◌%◌, ◌^◌, ◌≤◌, ◌<◌, min}
+use Rattle.std.specs.Prelude.{◌≡◌, List, Bool, eqb, ltb, get_or, Option, Some, None, MatchOption, unwrap_or}
 use Rattle.std.proofs.Math.Path.{refl, ap}
-use Rattle.std.proofs.Common.{sym, ◌∙◌, pow-suc, div-one, shr-shr, eqb-true, eq-eqb}
+use Rattle.std.proofs.Common.{sym, ◌∙◌, pow-suc, div-one, shr-shr, lt-ltb, le-ltb, eqb-true, eq-eqb}
 use Rattle.std.proofs.Math.Bool.{true, false}
 use native.Mathlib.Omega.{arith}
 use Rattle.std.proofs.Math.Decide.{dec_lt}
@@ -11,7 +11,6 @@ use Rattle.xml.specs.Truth.{bool_by}
 use Rattle.timestamp.specs.Bits.{bit, bit-zero, bit-suc, bit-none}
 use Rattle.timestamp.specs.TimesLaws.{bool_eq}
 use Rattle.timestamp.specs.Set.{set_of, empty_set, is_none, outside, first_in}
-use Rattle.timestamp.specs.Words.{not_at, not-bit}
 use Rattle.timestamp.specs.Tests.{same-tells, same-told}
 
 module _ (s : ℕ → Bool) where
@@ -64,6 +63,53 @@ module _ (s : ℕ → Bool) where
       go x a b (yes q) = f x a q
       go x a b (no q) = first-before (e - u) u x (omega arith) b
 
+-- ---- the least member as an answer: one of the numbers that words can hold, or none
+abbrev pub pick_held : Bool → ℕ → Option ℕ
+pick_held true m = Some m
+pick_held false m = None
+
+abbrev pub next_member : (ℕ → Bool) → ℕ → Option ℕ
+next_member s v = pick_held (ltb (first_in (1024 - v) s v) 1024) (first_in (1024 - v) s v)
+
+-- the first run of members below 1000 from v on: its first and its last number
+abbrev pub RunFrom : (ℕ → Bool) → ℕ → Option (ℕ × ℕ) → Type 0
+RunFrom s v r =
+    MatchOption r (1000 ≤ first_in (1024 - v) s v)
+    (λ x. (x.0 ≡ first_in (1024 - v) s v) × (x.0 < 1000) × (x.1 + 1 ≡ min (first_in (1024 - x.0) (outside s) x.0) 1000))
+
+-- by the first number, or 1024 where there is none
+abbrev pub pick_held_of : ℕ → Option ℕ
+pick_held_of m = pick_held (ltb m 1024) m
+
+module _ (s : ℕ → Bool) (v : ℕ) where
+  pub member-is : {m : ℕ} → first_in (1024 - v) s v ≡ m → m < 1024 → Some m ≡ next_member s v
+  member-is {m} e h = rw (e, lt-ltb m 1024 h)
+
+  pub member-none : first_in (1024 - v) s v ≡ 1024 → None ≡ next_member s v
+  member-none e = rw e
+
+  pub member-found : {m : ℕ} → Some m ≡ next_member s v → (m ≡ first_in (1024 - v) s v) × (m < 1024)
+  member-found {m} e = go (first_in (1024 - v) s v) (dec_lt (first_in (1024 - v) s v) 1024) e
+    where
+      go : (f : ℕ) → Dec (f < 1024) → Some m ≡ pick_held (ltb f 1024) f → (m ≡ f) × (m < 1024)
+      go f (yes q) z = let y : Some m ≡ Some f = rw (lt-ltb f 1024 q) at z in let w : m ≡ f = cc in (w, omega arith)
+      go f (no q) z = let y : Some m ≡ None = rw (le-ltb f 1024 (omega arith)) at z in absurd cc
+
+  pub member-missed : None ≡ next_member s v → 1024 ≤ first_in (1024 - v) s v
+  member-missed e = go (first_in (1024 - v) s v) (dec_lt (first_in (1024 - v) s v) 1024) e
+    where
+      go : (f : ℕ) → Dec (f < 1024) → None ≡ pick_held (ltb f 1024) f → 1024 ≤ f
+      go f (yes q) z = let y : None ≡ Some f = rw (lt-ltb f 1024 q) at z in absurd cc
+      go f (no q) z = omega arith
+
+  -- the end of a run, at 1000 or before
+  pub member-end : min (unwrap_or (next_member s v) 1000) 1000 ≡ min (first_in (1024 - v) s v) 1000
+  member-end = go (first_in (1024 - v) s v) (dec_lt (first_in (1024 - v) s v) 1024)
+    where
+      go : (f : ℕ) → Dec (f < 1024) → min (unwrap_or (pick_held (ltb f 1024) f) 1000) 1000 ≡ min f 1000
+      go f (yes q) = rw (lt-ltb f 1024 q)
+      go f (no q) = rw (le-ltb f 1024 (omega arith)) (omega arith)
+
 -- there is none
 pub none_first : (s : ℕ → Bool) → eqb (first_in 1024 s 0) 1024 ≡ is_none s
 none_first s =
@@ -108,13 +154,17 @@ module _ {s : ℕ → Bool} (x v k j r : ℕ) (is : (u : ℕ) → u / 64 ≡ k �
       is u d' ∙ ap (bit x) m ∙ sym (bit-shr x j i) ∙ ap (λ (y : ℕ). bit y i) (sym d)
 
   -- a rest that is not 0 gives its lowest bit
-  pub word-found : r < 2 ^ (64 - j) → (r ≡ 0 → ⊥) → first_in (1024 - v) s v ≡ v + count_trailing_zeros 64 r
+  word-found : r < 2 ^ (64 - j) → (r ≡ 0 → ⊥) → first_in (1024 - v) s v ≡ v + count_trailing_zeros 64 r
   word-found hr ne =
       let t = count_trailing_zeros 64 r in
       let b = lowest-in (64 - j) 64 r (omega arith) (omega arith) hr in
       first-is s (1024 - v) v (v + t) (omega arith) (omega (arith, b.0))
       (λ u l h. word-bit u (u - v) (omega arith) (omega (arith, b.0)) ∙ lowest-out 64 r (u - v) (omega arith))
       (λ h. word-bit (v + t) t refl (omega (arith, b.0)) ∙ b.1)
+
+  pub word-member : r < 2 ^ (64 - j) → (r ≡ 0 → ⊥) → Some (v + count_trailing_zeros 64 r) ≡ next_member s v
+  word-member hr ne =
+      let b = lowest-in (64 - j) 64 r (omega arith) (omega arith) hr in member-is s v (word-found hr ne) (omega (arith, b.0))
 
   -- one that is 0 is passed
   pub word-passed : r ≡ 0 → first_in (1024 - v) s v ≡ first_in (1024 - (k + 1) * 64) s ((k + 1) * 64)
@@ -124,16 +174,13 @@ module _ {s : ℕ → Bool} (x v k j r : ℕ) (is : (u : ℕ) → u / 64 ≡ k �
 
 -- the same of whole words
 module _ {s : ℕ → Bool} (x k : ℕ) (is : (u : ℕ) → u / 64 ≡ k → s u ≡ bit x (u % 64)) (hk : k < 16) where
-  pub whole-found : x < 2 ^ 64 → (x ≡ 0 → ⊥) → first_in (1024 - k * 64) s (k * 64) ≡ k * 64 + count_trailing_zeros 64 x
-  whole-found = word-found x (k * 64) k 0 x is (omega arith) (omega arith) hk (sym (div-one x))
+  pub whole-member : x < 2 ^ 64 → (x ≡ 0 → ⊥) → Some (k * 64 + count_trailing_zeros 64 x) ≡ next_member s (k * 64)
+  whole-member = word-member x (k * 64) k 0 x is (omega arith) (omega arith) hk (sym (div-one x))
 
   pub whole-passed : x ≡ 0 → first_in (1024 - k * 64) s (k * 64) ≡ first_in (1024 - (k + 1) * 64) s ((k + 1) * 64)
   whole-passed = word-passed x (k * 64) k 0 x is (omega arith) (omega arith) hk (sym (div-one x))
 
--- the word of the set, and that of the numbers that it lacks
+-- the word of the set
 pub word-is : (w : List ℕ) (k u : ℕ) → u / 64 ≡ k → set_of w u ≡ bit (get_or w k 0) (u % 64)
 unfolding set_of
 word-is w k u e = ap (λ (n : ℕ). bit (get_or w n 0) (u % 64)) e
-
-pub gap_is : (w : List ℕ) (k : ℕ) → k < 16 → (u : ℕ) → u / 64 ≡ k → outside (set_of w) u ≡ bit (not_at w k) (u % 64)
-gap_is w k h u e = sym (not-bit w u (omega arith)) ∙ ap (λ (n : ℕ). bit (not_at w n) (u % 64)) e

@@ -1,21 +1,22 @@
 -- The last run of a set's text that begins at a number or below it, found by halving: it is where the set is cut at that number.
 use Prim.Native.Nat.{ℕ, suc, ◌+◌, ◌-◌, ◌≤◌, ◌<◌}
-use Rattle.std.specs.Prelude.{◌≡◌, Bool, get_or, drop}
+use Rattle.std.specs.Prelude.{◌≡◌, Bool, get_or, take, drop, Option, Some, None, IsSome}
 use Rattle.std.proofs.Math.Path.{refl}
-use Rattle.std.proofs.Common.{sym, ap, ◌∙◌, arith, length-append, get_or-append-add, get_or-drop}
+use Rattle.std.proofs.Common.{sym, ap, ◌∙◌, arith, length-append, length-drop, get_or-append-add, get_or-drop}
 use mathlib.Core.List.{List, [], ◌∷◌, ◌++◌, append_assoc}
 use Rattle.std.proofs.Math.Bool.{true, false}
 use Rattle.std.proofs.Math.Decide.{dec_lt}
 use Rattle.std.proofs.Math.ListN.{length}
-use Rattle.std.proofs.Math.Seq.{get_or-append_seam}
+use Rattle.std.proofs.Math.Seq.{get_or-append_seam, take-length}
 use Rattle.xml.specs.Bytes.{Bytes, any}
 use Rattle.xml.specs.Truth.{clash}
 use Rattle.timestamp.specs.Times.{write_run}
 use Rattle.timestamp.specs.TimesLaws.{in_run, run_in_lem, or-by}
 use Rattle.timestamp.specs.Runs.{Asc, in_runs, rest, below-runs, runs-back}
 use Rattle.timestamp.specs.Digits.{text, tail_text}
-use Rattle.timestamp.specs.Numbers.{NumberAt, stays, reads, Ended}
+use Rattle.timestamp.specs.Numbers.{NumberAt, stays, reads, Ended, NumberRead}
 use Rattle.timestamp.specs.Write.{run_short}
+use Rattle.timestamp.specs.declared.text.Number.{Number}
 use Rattle.timestamp.specs.Place.{IsSet, lead, Place, Clear, text-cons, asc-from, from_place, split-place, drop-place, number_on, Stop, number-stop, number-back, first_back, run-whole, place-zero, place-comma, place_set}
 
 -- ---- places in the text
@@ -111,6 +112,27 @@ pub record NextStart (l : Bytes) (at r : ℕ) : Type 0 where
   pub clear : Clear l at (r - 1)
   pub comma : r < length l → (at < r) × (get_or l (r - 1) 0 ≡ 44)
 
+-- it is that of the text from there on
+pub next-from : (l : Bytes) (at r : ℕ) → at ≤ length l → NextStart (take (length l - at) (drop at l)) 0 r → NextStart l at (at + r)
+next-from l at r h n = go (rw rest at n)
+  where
+    rest : take (length l - at) (drop at l) ≡ drop at l
+    rest = ap (λ (k : ℕ). take k (drop at l)) (sym (length-drop at l)) ∙ take-length (drop at l)
+
+    go : NextStart (drop at l) 0 r → NextStart l at (at + r)
+    go n =
+        record {
+          high = omega (arith, n.high, length-drop at l);
+          clear = λ j a b.
+              let z : at + (j - at) ≡ j = omega arith in
+              let y : get_or (drop at l) (j - at) 0 ≡ get_or l j 0 = rw z at (get_or-drop at l (j - at) 0) in
+              let x : get_or l j 0 ≡ 44 → ⊥ = λ e. n.clear (j - at) (omega arith) (omega arith) (y ∙ e) in x;
+          comma = λ k.
+              let x = n.comma (omega (arith, length-drop at l)) in
+              let z : at + (r - 1) ≡ at + r - 1 = omega (arith, x.0) in
+              (omega (arith, x.0), rw z at (sym (get_or-drop at l (r - 1) 0) ∙ x.1));
+        }
+
 -- the run at lo begins at v or below it, or is the first; those at hi or after begin above v
 pub record Bracket (l : Bytes) (v lo hi : ℕ) : Type 0 where
   pub set : IsSet l
@@ -172,6 +194,11 @@ module _ {l : Bytes} {v lo hi : ℕ} (b : Bracket l v lo hi) where
           let x = n.comma (omega (arith, b.inside)) in
           let z : next - 1 + 1 ≡ next = omega (arith, x.0) in
           rw z at (place-comma l b.set.s b.set.is (next - 1) x.1)
+
+      -- where a run starts, a number is read
+      pub number-there : (r : Option Number) → NumberRead l next r → IsSome r
+      number-there None x = absurd (omega (arith, first-place starts x.0 x.1, (from_place starts).0))
+      number-there (Some m) x = refl
 
       module _ {m to : ℕ} (o : NumberAt l next m to) (x : Ended l m to) where
         pub bracket-low : m ≤ v → Bracket l v next hi

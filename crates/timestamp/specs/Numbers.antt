@@ -1,5 +1,5 @@
 -- A number of a text read at once: what the reader of a text makes of it is what it makes of its digits.
-use Rattle.std.specs.Prelude.{ℕ, ◌+◌, ◌-◌, ◌*◌, ◌/◌, ◌%◌, ◌≤◌, ◌<◌, ◌≡◌, refl, [], ◌∷◌, ◌++◌, Bool, true, false, ◌&&◌, leb, length, get_or, drop}
+use Rattle.std.specs.Prelude.{ℕ, ◌+◌, ◌-◌, ◌*◌, ◌/◌, ◌%◌, ◌≤◌, ◌<◌, ◌≡◌, refl, [], ◌∷◌, ◌++◌, Bool, true, false, ◌&&◌, leb, length, get_or, drop, Option, MatchOption}
 use Rattle.std.proofs.Common.{sym, ap, ap₂, ◌∙◌, add-one, length-append, length-drop, drop-cons}
 use Rattle.std.proofs.Math.Bool.{and-true}
 use native.Mathlib.Omega.{arith}
@@ -11,6 +11,7 @@ use Rattle.timestamp.specs.TimesLaws.{digit_low, digit-high}
 use Rattle.timestamp.specs.Digits.{digits, digits-length}
 use Rattle.timestamp.specs.Reading.{st, more, steps}
 use Rattle.timestamp.specs.Accepts.{digits-steps}
+use Rattle.timestamp.specs.declared.text.Number.{Number}
 
 -- the number n at the place `at`, in decimal, and the place `to` after it; n is 0 where none is read there
 pub data NumberAt (l : Bytes) (at n to : ℕ) : Type 0 where
@@ -24,6 +25,10 @@ is_first b = leb 49 b && leb b 57
 -- the byte at the place `to` is no digit that may follow the number n
 abbrev pub Ended : Bytes → ℕ → ℕ → Type 0
 Ended l n to = is_digit (get_or l to 0) ≡ true → more n (get_or l to 0) ≡ false
+
+-- what is read at the place `at`: a number, or none
+abbrev pub NumberRead : Bytes → ℕ → Option Number → Type 0
+NumberRead l at r = MatchOption r (NumberAt l at 0 at × Ended l 0 at) (λ x. (at < x.to) × NumberAt l at x.n x.to × Ended l x.n x.to)
 
 pub ended-past : (l : Bytes) (n to : ℕ) → length l ≤ to → Ended l n to
 unfolding is_digit within
@@ -69,7 +74,7 @@ module _ (a : ℕ) (f : is_first a ≡ true) where
       let x : 48 + n ≡ a = omega (arith, low) in
       (omega (arith, low), omega (arith, high), rw (lt-ltb n 10 (omega (arith, high))) (ap (λ (b : ℕ). b ∷ []) x))
 
-  two_is : (n b : ℕ) → is_digit b ≡ true → n ≡ a * 10 + b - 528 → (1 ≤ n) × (n < 1000) × (digits n ≡ a ∷ b ∷ [])
+  two_is : (n b : ℕ) → is_digit b ≡ true → n ≡ 10 * (a - 48) + (b - 48) → (1 ≤ n) × (n < 1000) × (digits n ≡ a ∷ b ∷ [])
   unfolding digits
   two_is n b g e =
       let u = low in
@@ -80,7 +85,7 @@ module _ (a : ℕ) (f : is_first a ≡ true) where
       let z : 48 + n % 10 ≡ b = omega arith in
       (omega arith, omega arith, rw (le-ltb n 10 (omega arith), lt-ltb n 100 (omega arith)) (ap₂ (λ (i j : ℕ). i ∷ j ∷ []) y z))
 
-  three-is : (n b c : ℕ) → is_digit b ≡ true → is_digit c ≡ true → n ≡ a * 100 + b * 10 + c - 5328 → (1 ≤ n) × (n < 1000) × (digits n ≡ a ∷ b ∷ c ∷ [])
+  three-is : (n b c : ℕ) → is_digit b ≡ true → is_digit c ≡ true → n ≡ 10 * (10 * (a - 48) + (b - 48)) + (c - 48) → (1 ≤ n) × (n < 1000) × (digits n ≡ a ∷ b ∷ c ∷ [])
   unfolding digits
   three-is n b c g h e =
       let u = low in
@@ -100,19 +105,19 @@ module _ (l : Bytes) (at n : ℕ) (f : is_first (get_or l at 0) ≡ true) where
       let x = one-is (get_or l at 0) f n e in
       reads x.0 x.1 (drop-one l at h ∙ ap (λ (s : Bytes). s ++ drop (at + 1) l) (sym x.2)) (omega arith) h
 
-  pub reads_two : at + 2 ≤ length l → is_digit (get_or l (at + 1) 0) ≡ true → n ≡ get_or l at 0 * 10 + get_or l (at + 1) 0 - 528 → NumberAt l at n (at + 2)
+  pub reads_two : at + 2 ≤ length l → is_digit (get_or l (at + 1) 0) ≡ true → n ≡ 10 * (get_or l at 0 - 48) + (get_or l (at + 1) 0 - 48) → NumberAt l at n (at + 2)
   reads_two h g e =
       let x = two_is (get_or l at 0) f n (get_or l (at + 1) 0) g e in
       reads x.0 x.1 (drop-two l at h ∙ ap (λ (s : Bytes). s ++ drop (at + 2) l) (sym x.2)) (omega arith) h
 
   pub reads_three : at + 3 ≤ length l → is_digit (get_or l (at + 1) 0) ≡ true → is_digit (get_or l (at + 2) 0) ≡ true
-      → n ≡ get_or l at 0 * 100 + get_or l (at + 1) 0 * 10 + get_or l (at + 2) 0 - 5328 → NumberAt l at n (at + 3)
+      → n ≡ 10 * (10 * (get_or l at 0 - 48) + (get_or l (at + 1) 0 - 48)) + (get_or l (at + 2) 0 - 48) → NumberAt l at n (at + 3)
   reads_three h g k e =
       let x = three-is (get_or l at 0) f n (get_or l (at + 1) 0) (get_or l (at + 2) 0) g k e in
       reads x.0 x.1 (drop-three l at h ∙ ap (λ (s : Bytes). s ++ drop (at + 3) l) (sym x.2)) (omega arith) h
 
   pub three-long : is_digit (get_or l (at + 1) 0) ≡ true → is_digit (get_or l (at + 2) 0) ≡ true
-      → n ≡ get_or l at 0 * 100 + get_or l (at + 1) 0 * 10 + get_or l (at + 2) 0 - 5328 → Ended l n (at + 3)
+      → n ≡ 10 * (10 * (get_or l at 0 - 48) + (get_or l (at + 1) 0 - 48)) + (get_or l (at + 2) 0 - 48) → Ended l n (at + 3)
   three-long g k e = ended-long l n (at + 3) (omega (arith, low (get_or l at 0) f, digit_low (get_or l (at + 1) 0) g, digit_low (get_or l (at + 2) 0) k))
 
 -- ---- what the readers make of it

@@ -1,5 +1,5 @@
 -- Where the runs of a text begin, and that a run is read there as it was written.
-use Rattle.std.specs.Prelude.{ℕ, zero, suc, ◌+◌, ◌-◌, ◌*◌, ◌≤◌, ◌<◌, ◌≡◌, Bool, true, false, ◌&&◌, ◌||◌, eqb, ltb, length, drop}
+use Rattle.std.specs.Prelude.{ℕ, zero, suc, ◌+◌, ◌-◌, ◌*◌, ◌≤◌, ◌<◌, ◌≡◌, Bool, true, false, ◌&&◌, ◌||◌, eqb, ltb, length, drop, Option, Some, None, IsSome}
 use Rattle.std.proofs.Math.Path.{refl, ap, fun_ext}
 use Rattle.std.proofs.Common.{sym, ap₂, ◌∙◌, arith, length-append, get_or-append-add, get_or-drop, lt-ltb, le-ltb}
 use mathlib.Core.List.{List, [], ◌∷◌, ◌++◌, append_assoc}
@@ -21,7 +21,8 @@ use Rattle.timestamp.specs.Parse.{accepted, refused, parsed}
 use Rattle.timestamp.specs.Reading.{more, set_in, read_in}
 use Rattle.timestamp.specs.Accepts.{digit-is, more-digit, runs-accepted}
 use Rattle.timestamp.specs.Sound.{accepted-runs}
-use Rattle.timestamp.specs.RunAt.{RunAt, nothing, run}
+use Rattle.timestamp.specs.RunAt.{RunAt, nothing, run, RunRead}
+use Rattle.timestamp.specs.declared.text.Run.{Run}
 use Rattle.timestamp.specs.Parses.{read-parsed, text-runs}
 
 -- the text is that of a set
@@ -192,6 +193,11 @@ read-place {l} {at} {lo} {hi} {to} c (run h k b i g e x d) =
     let w : Whole lo hi (drop to l) = record { low = omega arith; up = k; small = b; stop = rw (get_or-drop to l 0 0, z) x; dash = rw (get_or-drop to l 0 44, z) d } in
     let y = run-back w (run-whole 0 c.q c.after (from_place c)) (sym e ∙ drop-place c) in
     record { first = y.0; last = y.1; onward = g; tail = y.2 }
+
+-- where a run begins, one is read
+pub run-there : {l : Bytes} {at : ℕ} (c : Place l at) (r : Option Run) → RunRead l at 0 r → IsSome r
+run-there c None x = absurd (omega (arith, (read-place c x).last, (from_place c).0, (from_place c).1))
+run-there c (Some y) x = refl
 
 -- ---- places
 -- the text of the set of runs is theirs

@@ -1,6 +1,6 @@
 -- A run of a text read at once, past a bound: what the byte reader makes of it, and of what stands there where it is none.
 use Prim.Native.Nat.{ℕ, ◌+◌, ◌≤◌, ◌<◌}
-use Rattle.std.specs.Prelude.{◌≡◌, ◌∷◌, ◌++◌, Bool, drop}
+use Rattle.std.specs.Prelude.{◌≡◌, ◌∷◌, ◌++◌, Bool, drop, Option, MatchOption}
 use Rattle.std.proofs.Math.Path.{refl, sym, ap, ap₂}
 use Rattle.std.proofs.Common.{◌∙◌, arith}
 use Rattle.std.proofs.Math.Bool.{true, false}
@@ -17,11 +17,16 @@ use Rattle.timestamp.specs.Accepts.{start_of, run-steps, run-close}
 use Rattle.timestamp.specs.Sound.{steps-bad}
 use Rattle.timestamp.specs.Numbers.{NumberAt, stays, reads, Ended, number-steps, drop-one}
 use Rattle.timestamp.specs.Parses.{read-parsed}
+use Rattle.timestamp.specs.declared.text.Run.{Run}
 
 -- at the place `at` the run lo to hi begins past p, and ends before the place `to`; hi is 0 where what stands there is refused
 pub data RunAt (l : Bytes) (at p lo hi to : ℕ) : Type 0 where
   nothing : hi ≡ 0 → ((s : ℕ → Bool) → close_in (steps (st s p 0 0) (drop at l)) ≡ bad) → RunAt l at p lo hi to
   run : p < lo → lo ≤ hi → hi < 1000 → at ≤ to → to ≤ length l → drop at l ≡ run_text lo hi (drop to l) → Ended l hi to → (lo ≡ hi → get_or l to 44 ≡ 45 → ⊥) → RunAt l at p lo hi to
+
+-- what is read at the place `at`: a run past p, or none
+abbrev pub RunRead : Bytes → ℕ → ℕ → Option Run → Type 0
+RunRead l at p r = MatchOption r (RunAt l at p 0 0 at) (λ x. (0 < x.hi) × RunAt l at p x.lo x.hi x.to)
 
 -- ---- what is refused
 module _ (l : Bytes) (s : ℕ → Bool) (p lo n to : ℕ) (x : Ended l n to) where

@@ -1,12 +1,12 @@
 -- A text's set taken out of another, run by run: what is known on the way, and the answer.
 use Prim.Native.Nat.{ℕ, ◌+◌, ◌-◌, ◌*◌, ◌≤◌, ◌<◌}
-use Rattle.std.specs.Prelude.{◌≡◌, false, ◌&&◌, ◌||◌, eqb, leb, length, get_or, drop}
+use Rattle.std.specs.Prelude.{◌≡◌, false, ◌&&◌, ◌||◌, eqb, leb, length, get_or, drop, Option, Some, None, MatchOption, unwrap_or}
 use Rattle.std.proofs.Math.Path.{refl, sym, ap, fun_ext}
 use Rattle.std.proofs.Common.{◌∙◌, arith}
 use mathlib.Core.List.{List, [], ◌∷◌}
 use Rattle.std.proofs.Math.Bool.{Bool, true, not, and-true}
 use Rattle.std.proofs.Math.Decide.{dec_lt, ℕ_discrete}
-use borrow.Author.Tests.{eq-eqb, ne_eqb, le-leb, lt-leb, leb-true}
+use borrow.Author.Tests.{le-leb, lt-leb, leb-true}
 use Rattle.xml.specs.Bytes.{Bytes, is_digit}
 use Rattle.xml.specs.Truth.{both, clash, not_so, and_left, and_right, or-first, or-second}
 use Rattle.timestamp.specs.TimesLaws.{or-by}
@@ -14,22 +14,22 @@ use Rattle.timestamp.specs.Set.{set_of, empty_set, between, joined, without, sub
 use Rattle.timestamp.specs.Tests.{subset-tells, subset-told}
 use Rattle.timestamp.specs.First.{first-is}
 use Rattle.timestamp.specs.Parse.{Outcome, refused, accepted, parsed}
-use Rattle.timestamp.specs.Reading.{St, st, bad, pick_n, pick_s, more, opens, closes, start_at, digit_in, dash_in, close_in, step_in, steps, set_in, read_in}
+use Rattle.timestamp.specs.Reading.{St, st, bad, pick_s, more, opens, closes, start_at, digit_in, dash_in, close_in, step_in, steps, set_in, read_in}
 use Rattle.timestamp.specs.Parses.{read-parsed}
 use Rattle.timestamp.specs.RunAt.{RunAt, nothing, run, run_none, run_fits, run-last, run-other, run-comma}
 use Rattle.timestamp.specs.Taken.{Taken}
 
--- the first number, where `first` is 0 as long as there is none
-abbrev pub earliest_of : ℕ → ℕ → ℕ
-earliest_of first lo = pick_n (eqb first 0) lo first
+abbrev pub some_if : Bool → ℕ → Option ℕ
+some_if true n = Some n
+some_if false n = None
 
--- the first number of the set that is read, if all its numbers are in t; or 0
-unfoldable pub first_taken : (ℕ → Bool) → Outcome → ℕ
-first_taken t refused = 0
-first_taken t (accepted s) = pick_n (subset s t) (first_in 1024 s 0) 0
+-- the first number of the set that is read, if all its numbers are in t
+unfoldable pub first_taken : (ℕ → Bool) → Outcome → Option ℕ
+first_taken t refused = None
+first_taken t (accepted s) = some_if (subset s t) (first_in 1024 s 0)
 
 -- the answer, and what is left of the words a: without that set
-abbrev pub TakesText : Bytes → List ℕ → List ℕ → ℕ → Type 0
+abbrev pub TakesText : Bytes → List ℕ → List ℕ → Option ℕ → Type 0
 TakesText l a w r = (r ≡ first_taken (set_of a) (parsed l)) × ((s : ℕ → Bool) → parsed l ≡ accepted s → subset s (set_of a) ≡ true → set_of w ≡ without (set_of a) s) × (length w ≡ 16)
 
 -- ---- what is read is a set or nothing
@@ -107,12 +107,11 @@ module _ (l : Bytes) (s : ℕ → Bool) (p at : ℕ) (inv : close_in (steps (st 
       go (no q) c = sym (ap (λ (u : ℕ → Bool). u v) (same_read (run-last l s p at inv r z (omega arith) more-set refl) e)) ∙ or-second (s v) (between lo hi v) b
 
 -- ---- on the way: the runs before `at` are taken out of a, which leaves w
--- the set's first number is `first`; or it has none yet
-pub data Begins (first p : ℕ) (s : ℕ → Bool) : Type 0 where
-  not_yet : first ≡ 0 → s ≡ empty_set → Begins first p s
-  begun : 0 < first → first < p → s first ≡ true → ((u : ℕ) → u < first → s u ≡ false) → Begins first p s
+-- the set's first number; or it has none yet
+abbrev pub Begins : Option ℕ → ℕ → (ℕ → Bool) → Type 0
+Begins first p s = MatchOption first (s ≡ empty_set) (λ f. (f < p) × (s f ≡ true) × ((u : ℕ) → u < f → s u ≡ false))
 
-pub record TakingText (l : Bytes) (a : List ℕ) (first p at : ℕ) (w : List ℕ) : Type 0 where
+pub record TakingText (l : Bytes) (a : List ℕ) (first : Option ℕ) (p at : ℕ) (w : List ℕ) : Type 0 where
   pub set : ℕ → Bool
   pub reads : close_in (steps (st set p 0 0) (drop at l)) ≡ close_in (steps (st empty_set 0 0 0) l)
   pub inside : at ≤ length l
@@ -122,7 +121,7 @@ pub record TakingText (l : Bytes) (a : List ℕ) (first p at : ℕ) (w : List �
   pub under : (v : ℕ) → set v ≡ true → v < p
   pub begins : Begins first p set
 
-pub text-start : (l : Bytes) (a : List ℕ) → length a ≡ 16 → TakingText l a 0 0 0 a
+pub text-start : (l : Bytes) (a : List ℕ) → length a ≡ 16 → TakingText l a None 0 0 a
 text-start l a e =
     record {
       set = empty_set;
@@ -132,15 +131,15 @@ text-start l a e =
       left = fun_ext (λ v. sym (and-true (set_of a v)));
       had = subset-told empty_set (set_of a) (λ v l q. clash (sym q));
       under = λ v q. clash (sym q);
-      begins = not_yet refl refl;
+      begins = refl;
     }
 
-pub text-refused : (l : Bytes) (a w : List ℕ) → refused ≡ parsed l → length w ≡ 16 → TakesText l a w 0
+pub text-refused : (l : Bytes) (a w : List ℕ) → refused ≡ parsed l → length w ≡ 16 → TakesText l a w None
 unfolding first_taken
 text-refused l a w r e = (ap (first_taken (set_of a)) r, λ s d h. not-both r d, e)
 
-module _ {l : Bytes} {a : List ℕ} {first p at : ℕ} {w : List ℕ} (x : TakingText l a first p at w) {lo hi to : ℕ} (r : RunAt l at p lo hi to) where
-  pub text-none : hi ≡ 0 → TakesText l a w 0
+module _ {l : Bytes} {a : List ℕ} {first : Option ℕ} {p at : ℕ} {w : List ℕ} (x : TakingText l a first p at w) {lo hi to : ℕ} (r : RunAt l at p lo hi to) where
+  pub text-none : hi ≡ 0 → TakesText l a w None
   text-none z = text-refused l a w (run_none l x.set p at x.reads r z) x.size
 
   module _ (z : hi ≡ 0 → ⊥) where
@@ -156,7 +155,7 @@ module _ {l : Bytes} {a : List ℕ} {first p at : ℕ} {w : List ℕ} (x : Takin
 
     module _ (v : List ℕ) {b : Bool} (t : Taken w (between lo hi) v b) where
       -- a number of the run was not there
-      pub text-lacks : b ≡ false → TakesText l a v 0
+      pub text-lacks : b ≡ false → TakesText l a v None
       unfolding first_taken
       text-lacks f = (go (parsed l) refl, λ s d h. absurd (none-there s d h), t.2)
         where
@@ -167,7 +166,7 @@ module _ {l : Bytes} {a : List ℕ} {first p at : ℕ} {w : List ℕ} (x : Takin
               ∙ both (subset-tells s (set_of a) h u m (run-member l x.set p at x.reads r z s d u q))
               (ap not (not_so (x.set u) (λ y. omega (arith, past, x.under u y, leb-true lo u (and_left (leb lo u) (leb u hi) q))))))) ∙ sym t.0 ∙ f)
 
-          go : (o : Outcome) → parsed l ≡ o → 0 ≡ first_taken (set_of a) (parsed l)
+          go : (o : Outcome) → parsed l ≡ o → None ≡ first_taken (set_of a) (parsed l)
           go refused e = rw e
           go (accepted s) e = rw (e, not_so (subset s (set_of a)) (none-there s e))
 
@@ -193,44 +192,51 @@ module _ {l : Bytes} {a : List ℕ} {first p at : ℕ} {w : List ℕ} (x : Takin
         taken-under u q =
             or-by (x.set u) (between lo hi u) q (λ y. omega (arith, x.under u y, past, text-fits.0)) (λ y. omega (arith, leb-true u hi (and_right (leb lo u) (leb u hi) y)))
 
-        taken-begins : Begins (earliest_of first lo) (hi + 1) now
-        taken-begins = go x.begins
+        -- the first number of what is taken now
+        abbrev Starts : ℕ → Type 0
+        Starts f = (f < hi + 1) × (now f ≡ true) × ((u : ℕ) → u < f → now u ≡ false)
+
+        starts-anew : x.set ≡ empty_set → Starts lo
+        starts-anew n = (
+          omega (arith, text-fits.0),
+          or-second (x.set lo) (between lo hi lo) (rw (le-leb lo lo (omega arith), le-leb lo hi text-fits.0)),
+          λ u h. rw (ap (λ (g : ℕ → Bool). g u) n, lt-leb lo u h),
+        )
+
+        starts-on : (f : ℕ) → f < p → x.set f ≡ true → ((u : ℕ) → u < f → x.set u ≡ false) → Starts f
+        starts-on f l m n = (
+          omega (arith, past, text-fits.0),
+          or-first (x.set f) (between lo hi f) m,
+          λ u h. rw (n u h, lt-leb lo u (omega (arith, past))),
+        )
+
+        taken-begins : Starts (unwrap_or first lo)
+        taken-begins = go first x.begins
           where
-            lo-in : between lo hi lo ≡ true
-            lo-in = rw (le-leb lo lo (omega arith), le-leb lo hi text-fits.0)
+            go : (o : Option ℕ) → Begins o p x.set → Starts (unwrap_or o lo)
+            go None n = starts-anew n
+            go (Some f) y = starts-on f y.0 y.1 y.2
 
-            low : (u : ℕ) → u < lo → x.set u ≡ false → now u ≡ false
-            low u h e = rw (e, lt-leb lo u h)
-
-            go : Begins first p x.set → Begins (earliest_of first lo) (hi + 1) now
-            go (not_yet e n) =
-                rw (eq-eqb first 0 e) (begun (omega (arith, past)) (omega (arith, text-fits.0)) (or-second (x.set lo) (between lo hi lo) lo-in) (λ u h. low u h (ap (λ (g : ℕ → Bool). g u) n)))
-            go (begun f l m n) =
-                rw (ne_eqb first 0 (omega arith)) (begun f (omega (arith, past, text-fits.0)) (or-first (x.set first) (between lo hi first) m) (λ u h. low u (omega (arith, past)) (n u h)))
-
-        taken-first : first_in 1024 now 0 ≡ earliest_of first lo
-        taken-first = go taken-begins
-          where
-            go : Begins (earliest_of first lo) (hi + 1) now → first_in 1024 now 0 ≡ earliest_of first lo
-            go (not_yet e n) = clash (sym (or-second (x.set lo) (between lo hi lo) (rw (le-leb lo lo (omega arith), le-leb lo hi text-fits.0))) ∙ ap (λ (g : ℕ → Bool). g lo) n)
-            go (begun f l m n) = first-is now 1024 0 (earliest_of first lo) (omega arith) (omega (arith, l, text-fits.1)) (λ u y h. n u h) (λ _. m)
+        taken-first : first_in 1024 now 0 ≡ unwrap_or first lo
+        taken-first =
+            let y = taken-begins in first-is now 1024 0 (unwrap_or first lo) (omega arith) (omega (arith, y.0, text-fits.1)) (λ u z h. y.2 u h) (λ _. y.1)
 
         -- at the text's end
-        pub text-last : length l ≤ to → TakesText l a v (earliest_of first lo)
+        pub text-last : length l ≤ to → TakesText l a v (Some (unwrap_or first lo))
         unfolding first_taken
         text-last h =
             let e = run-last l x.set p at x.reads r z h now refl in (
-              rw (sym e, taken-had) (sym taken-first),
+              rw (sym e, taken-had) (ap Some (sym taken-first)),
               λ s d i. taken-left ∙ ap (without (set_of a)) (same_read e d),
               t.2,
             )
 
         -- before a byte that is no comma
-        pub text-other : to < length l → (get_or l to 0 ≡ 44 → ⊥) → TakesText l a v 0
+        pub text-other : to < length l → (get_or l to 0 ≡ 44 → ⊥) → TakesText l a v None
         text-other h c = text-refused l a v (run-other l x.set p at x.reads r z h c) t.2
 
         -- before a comma
-        pub text-more : to < length l → get_or l to 0 ≡ 44 → TakingText l a (earliest_of first lo) (hi + 1) (to + 1) v
+        pub text-more : to < length l → get_or l to 0 ≡ 44 → TakingText l a (Some (unwrap_or first lo)) (hi + 1) (to + 1) v
         text-more h c =
             record {
               set = now;

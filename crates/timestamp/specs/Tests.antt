@@ -1,7 +1,10 @@
 -- One pass over the words decides whether two sets agree, and what the answer tells.
-use Rattle.std.specs.Prelude.{ℕ, zero, suc, ◌+◌, ◌*◌, ◌/◌, ◌%◌, ◌^◌, ◌<◌, ◌≡◌, refl, List, Bool, true, false, ◌&&◌}
+use Rattle.std.specs.Prelude.{ℕ, zero, suc, ◌+◌, ◌*◌, ◌/◌, ◌%◌, ◌^◌, ◌<◌, ◌≡◌, refl, List, Bool, true, false, ◌&&◌, eqb, length}
 use Rattle.std.proofs.Common.{sym, ap, ◌∙◌, arith}
 use Rattle.std.specs.Bool.{beq}
+use Rattle.std.specs.Cmp.Lexicographic.{same_text, other_text}
+use Rattle.std.proofs.lemmas.List.{ext_get_or}
+use lib.Pointwise.{pointwise}
 use Rattle.std.proofs.Math.Decide.{dec_lt}
 use Rattle.std.proofs.Math.ListN.{get_or}
 use Rattle.xml.specs.Truth.{clash, not_so, and_left, and_right, and_both}
@@ -64,15 +67,22 @@ module _ (f g : ℕ → ℕ) (s t : ℕ → Bool)
           let m : (k * 64 + j) % 64 ≡ j = omega arith in
           rw (d, m) at (hs (k * 64 + j) ∙ same-tells s t e (k * 64 + j) (omega arith) ∙ sym (ht (k * 64 + j)))
 
-  differ : (k : ℕ) → k < 16 → f k < 2 ^ 64 → g k < 2 ^ 64 → (f k ≡ g k → ⊥) → same_set s t ≡ false
-  differ k hk hf hg ne = not_so (same_set s t) (λ e. ne (told-words e k hk hf hg))
-
 module _ (a b : List ℕ) where
   pub same-words : ((k : ℕ) → k < 16 → get_or a k 0 ≡ get_or b k 0) → same_set (set_of a) (set_of b) ≡ true
   unfolding set_of
   same-words h = agree (λ k. get_or a k 0) (λ k. get_or b k 0) (set_of a) (set_of b) (λ v. refl) (λ v. refl) h
 
-  pub other-words : (k : ℕ) → k < 16 → get_or a k 0 < 2 ^ 64 → get_or b k 0 < 2 ^ 64
-      → (get_or a k 0 ≡ get_or b k 0 → ⊥) → same_set (set_of a) (set_of b) ≡ false
+  -- the answer of `==` on words
+  pub equal-words : length a ≡ 16 → length b ≡ 16 → ((k : ℕ) → k < 16 → get_or a k 0 < 2 ^ 64) → ((k : ℕ) → k < 16 → get_or b k 0 < 2 ^ 64)
+      → pointwise eqb a b ≡ same_set (set_of a) (set_of b)
   unfolding set_of
-  other-words k = differ (λ k. get_or a k 0) (λ k. get_or b k 0) (set_of a) (set_of b) (λ v. refl) (λ v. refl) k
+  equal-words la lb ha hb = go (pointwise eqb a b) refl
+    where
+      words : same_set (set_of a) (set_of b) ≡ true → (k : ℕ) → k < length a → get_or a k 0 ≡ get_or b k 0
+      words e k l =
+          let h : k < 16 = omega arith in
+          told-words (λ k. get_or a k 0) (λ k. get_or b k 0) (set_of a) (set_of b) (λ v. refl) (λ v. refl) e k h (ha k h) (hb k h)
+
+      go : (r : Bool) → r ≡ pointwise eqb a b → pointwise eqb a b ≡ same_set (set_of a) (set_of b)
+      go true e = sym e ∙ sym (same-words (λ k l. ap (λ (w : List ℕ). get_or w k 0) (same_text a b e)))
+      go false e = sym e ∙ sym (not_so (same_set (set_of a) (set_of b)) (λ z. other_text a b e (ext_get_or 0 a b (la ∙ sym lb) (words z))))

@@ -83,6 +83,10 @@ pub outside_set : (a w : List ℕ) (i : ℕ) → Filled (not_at a) i w → 16 �
 outside_set a w i p l =
     filled-set (not_at a) i w _ p l (not-bit a) (λ v q. ap (λ (x : Bool). x && not (set_of a v)) (le-ltb v 1024 (omega arith)))
 
+-- the bits i to j are those of word k, if they begin and end where the range does, or where the word does
+pub bits-run : (lo hi k i j : ℕ) → i ≡ min (lo - k * 64) 64 → j + 1 ≡ min (hi + 1 - k * 64) 64 → bit_xor (2 ^ (j + 1) - 1) (2 ^ i - 1) ≡ range_word lo hi k
+bits-run lo hi k i j e f = ap₂ (λ (m n : ℕ). bit_xor (2 ^ m - 1) (2 ^ n - 1)) f e
+
 -- the bits of a range's words
 pub range-bit : (lo hi v : ℕ) → lo ≤ hi + 1 → bit (range_word lo hi (v / 64)) (v % 64) ≡ between lo hi v
 unfolding xor
@@ -127,28 +131,60 @@ zeros-none =
     filled-set (λ k. 0) 16 (replicate 16 0) empty_set (record { size = refl; are = λ k l. get_or-replicate 16 k 0 0 l }) (omega arith) (λ v q. bit-none _) (λ v q. refl)
 
 -- ---- a range put into sixteen words
--- one that stands in one word
-pub word_set : (a : List ℕ) (lo hi : ℕ) → length a ≡ 16 → lo ≤ hi → hi < 1024 → lo / 64 ≡ hi / 64
-    → set_of (set a (lo / 64) (bit_or (get_or a (lo / 64) 0) (range_word lo hi (lo / 64)))) ≡ joined (set_of a) (between lo hi)
+-- the words w are those of a, but those before `to` have the numbers lo to hi too
+pub record Filling (a : List ℕ) (lo hi to : ℕ) (w : List ℕ) : Type 0 where
+  pub size : length w ≡ 16
+  pub done : (v : ℕ) → v / 64 < to → set_of w v ≡ (set_of a v || between lo hi v)
+  pub rest : (v : ℕ) → to ≤ v / 64 → get_or w (v / 64) 0 ≡ get_or a (v / 64) 0
+
+pub filling-none : (a : List ℕ) (lo hi : ℕ) → length a ≡ 16 → Filling a lo hi (lo / 64) a
+filling-none a lo hi e =
+    record {
+      size = e;
+      done = λ v h. sym (ap (◌||◌ (set_of a v)) (rw (lt-leb lo v (omega arith))) ∙ or-false (set_of a v));
+      rest = λ v h. refl;
+    }
+
+-- one word more
+filling_more : {a w : List ℕ} {lo hi to : ℕ} (y : ℕ) → to < 16 → Filling a lo hi to w → ((v : ℕ) → v / 64 ≡ to → bit y (v % 64) ≡ (set_of a v || between lo hi v)) → Filling a lo hi (to + 1) (set w to y)
 unfolding set_of
-word_set a lo hi la le h e = fun_ext (λ v. go v (ℕ_discrete (v / 64) (lo / 64)))
+filling_more {a} {w} {lo} {hi} {to} y l p f =
+    record {
+      size = length-set w to y ∙ p.size;
+      done = λ v h. go v h (dec_lt (v / 64) to);
+      rest = λ v h. get_or-set_other w to (v / 64) y 0 (omega arith) ∙ p.rest v (omega arith);
+    }
   where
-    word : ℕ
-    word = bit_or (get_or a (lo / 64) 0) (range_word lo hi (lo / 64))
+    go : (v : ℕ) → v / 64 < to + 1 → Dec (v / 64 < to) → bit (get_or (set w to y) (v / 64) 0) (v % 64) ≡ (bit (get_or a (v / 64) 0) (v % 64) || between lo hi v)
+    go v h (yes q) = ap (λ (x : ℕ). bit x (v % 64)) (get_or-set_other w to (v / 64) y 0 (omega arith)) ∙ p.done v q
+    go v h (no q) =
+        let e : v / 64 ≡ to = omega arith in
+        ap (λ (n : ℕ). bit (get_or (set w to y) n 0) (v % 64)) e ∙ ap (λ (x : ℕ). bit x (v % 64)) (get_or-set_same w to y 0 (omega (arith, p.size))) ∙ f v e
 
-    out : (v : ℕ) → (v / 64 ≡ lo / 64 → ⊥) → Dec (v < lo) → between lo hi v ≡ false
-    out v n (yes q) = rw (lt-leb lo v q)
-    out v n (no q) = rw (lt-leb v hi (omega arith)) (and-false (leb lo v))
+-- by the bits that stand for them, or by all of them
+pub filling-or : {a w : List ℕ} {lo hi to x : ℕ} → lo ≤ hi → to < 16 → x ≡ range_word lo hi to → Filling a lo hi to w → Filling a lo hi (to + 1) (set w to (bit_or (get_or w to 0) x))
+unfolding set_of
+filling-or {a} {w} {lo} {hi} {to} {x} le l is p = filling_more (bit_or (get_or w to 0) x) l p (λ v e.
+    bit-or _ _ _ ∙ ap₂ ◌||◌ (ap (λ (n : ℕ). bit (get_or w n 0) (v % 64)) (sym e) ∙ ap (λ (n : ℕ). bit n (v % 64)) (p.rest v (omega arith)))
+    (ap (λ (n : ℕ). bit n (v % 64)) (is ∙ ap (range_word lo hi) (sym e)) ∙ range-bit lo hi v (omega arith)))
 
-    go : (v : ℕ) → Dec (v / 64 ≡ lo / 64) → set_of (set a (lo / 64) word) v ≡ (set_of a v || between lo hi v)
-    go v (yes q) =
-        ap (λ (x : ℕ). bit x (v % 64)) (ap (λ (n : ℕ). get_or (set a (lo / 64) word) n 0) q ∙ get_or-set_same a (lo / 64) word 0 (omega arith))
-        ∙ ap (λ (n : ℕ). bit (bit_or (get_or a n 0) (range_word lo hi n)) (v % 64)) (sym q)
-        ∙ bit-or _ _ _ ∙ ap (◌||◌ (set_of a v)) (range-bit lo hi v (omega arith))
-    go v (no n) =
-        ap (λ (x : ℕ). bit x (v % 64)) (get_or-set_other a (lo / 64) (v / 64) word 0 n)
-        ∙ sym (ap (◌||◌ (set_of a v)) (out v n (dec_lt v lo)) ∙ or-false (set_of a v))
+pub filling-ones : {a w : List ℕ} {lo hi to : ℕ} → lo / 64 < to → to < hi / 64 → to < 16 → Filling a lo hi to w → Filling a lo hi (to + 1) (set w to (2 ^ 64 - 1))
+filling-ones {a} {w} {lo} {hi} {to} low high l p = filling_more (2 ^ 64 - 1) l p (λ v e.
+    bit-ones 64 (v % 64) ∙ lt-ltb (v % 64) 64 (omega arith)
+    ∙ sym (ap (◌||◌ (set_of a v)) (rw (le-leb lo v (omega arith), le-leb v hi (omega arith))) ∙ or-true (set_of a v)))
 
+-- all of its words
+pub filling-all : {a w : List ℕ} {to : ℕ} (lo hi : ℕ) → Filling a lo hi to w → to ≡ hi / 64 + 1 → set_of w ≡ joined (set_of a) (between lo hi)
+unfolding set_of
+filling-all {a} {w} {to} lo hi p e = fun_ext (λ v. go v (dec_lt (v / 64) to))
+  where
+    go : (v : ℕ) → Dec (v / 64 < to) → bit (get_or w (v / 64) 0) (v % 64) ≡ (bit (get_or a (v / 64) 0) (v % 64) || between lo hi v)
+    go v (yes q) = p.done v q
+    go v (no q) =
+        ap (λ (x : ℕ). bit x (v % 64)) (p.rest v (omega arith))
+        ∙ sym (ap (◌||◌ (bit (get_or a (v / 64) 0) (v % 64))) (rw (lt-leb v hi (omega arith)) (and-false (leb lo v))) ∙ or-false _)
+
+-- ---- ranges put into a set
 -- one that stands in several words: in the first, in those between, in the last
 pub joined-parts : (s : ℕ → Bool) (lo hi : ℕ) → lo / 64 < hi / 64
     → joined (joined (joined s (between lo (lo / 64 * 64 + 63))) (between ((lo / 64 + 1) * 64) (hi / 64 * 64 - 1))) (between (hi / 64 * 64) hi) ≡ joined s (between lo hi)
@@ -185,43 +221,3 @@ adding-joined s v = fun_ext (λ u. go u (ℕ_discrete u v) (dec_lt u v))
     go u (yes q) d = rw (eq-eqb u v q, le-leb v u (omega arith), le-leb u v (omega arith)) (sym (or-true (s u)))
     go u (no n) (yes q) = rw (ne_eqb u v n, lt-leb v u q) (sym (or-false (s u)))
     go u (no n) (no q) = rw (ne_eqb u v n, lt-leb u v (omega arith), and-false (leb v u)) (sym (or-false (s u)))
-
--- ---- words set to one value
--- the words w are those of a, but those from `from` to before `to` are x
-pub record Stored (a : List ℕ) (from to x : ℕ) (w : List ℕ) : Type 0 where
-  pub size : length w ≡ 16
-  pub below : (n : ℕ) → n < from → get_or w n 0 ≡ get_or a n 0
-  pub are : (n : ℕ) → from ≤ n → n < to → get_or w n 0 ≡ x
-  pub above : (n : ℕ) → to ≤ n → get_or w n 0 ≡ get_or a n 0
-
-pub stored-none : (a : List ℕ) (from x : ℕ) → length a ≡ 16 → Stored a from from x a
-stored-none a from x e = record { size = e; below = λ n h. refl; are = λ n h l. absurd (omega arith); above = λ n h. refl }
-
--- one word more
-pub stored_more : (a w : List ℕ) (from to x : ℕ) → from ≤ to → to < 16 → Stored a from to x w → Stored a from (to + 1) x (set w to x)
-stored_more a w from to x h l p =
-    record {
-      size = length-set w to x ∙ p.size;
-      below = λ n q. get_or-set_other w to n x 0 (omega arith) ∙ p.below n q;
-      are = λ n q r. go n q r (dec_lt n to);
-      above = λ n q. get_or-set_other w to n x 0 (omega arith) ∙ p.above n (omega arith);
-    }
-  where
-    go : (n : ℕ) → from ≤ n → n < to + 1 → Dec (n < to) → get_or (set w to x) n 0 ≡ x
-    go n q r (yes d) = get_or-set_other w to n x 0 (omega arith) ∙ p.are n q d
-    go n q r (no d) = let e : n ≡ to = omega arith in rw e (get_or-set_same w to x 0 (omega (arith, p.size)))
-
--- set to all ones, they hold all their numbers
-pub stored-ones : (a w : List ℕ) (from to : ℕ) → from ≤ to → 1 ≤ from → Stored a from to (2 ^ 64 - 1) w → set_of w ≡ joined (set_of a) (between (from * 64) (to * 64 - 1))
-unfolding set_of
-stored-ones a w from to le one p = fun_ext (λ v. go v (dec_lt (v / 64) from) (dec_lt (v / 64) to))
-  where
-    other : (v : ℕ) → get_or w (v / 64) 0 ≡ get_or a (v / 64) 0 → between (from * 64) (to * 64 - 1) v ≡ false → set_of w v ≡ (set_of a v || between (from * 64) (to * 64 - 1) v)
-    other v e f = ap (λ (x : ℕ). bit x (v % 64)) e ∙ sym (ap (◌||◌ (set_of a v)) f ∙ or-false (set_of a v))
-
-    go : (v : ℕ) → Dec (v / 64 < from) → Dec (v / 64 < to) → set_of w v ≡ (set_of a v || between (from * 64) (to * 64 - 1) v)
-    go v (yes q) d = other v (p.below (v / 64) q) (rw (lt-leb (from * 64) v (omega arith)))
-    go v (no q) (yes r) =
-        ap (λ (x : ℕ). bit x (v % 64)) (p.are (v / 64) (omega arith) r) ∙ bit-ones 64 (v % 64) ∙ lt-ltb (v % 64) 64 (omega arith)
-        ∙ sym (ap (◌||◌ (set_of a v)) (rw (le-leb (from * 64) v (omega arith), le-leb v (to * 64 - 1) (omega arith))) ∙ or-true (set_of a v))
-    go v (no q) (no r) = other v (p.above (v / 64) (omega arith)) (rw (lt-leb v (to * 64 - 1) (omega arith)) (and-false (leb (from * 64) v)))

@@ -1,6 +1,6 @@
 -- The text of a set while it is written: what is written, and then what the runs from the next member on will give.
-use Rattle.std.specs.Prelude.{ℕ, ◌+◌, ◌-◌, ◌*◌, ◌≤◌, ◌<◌, min, ◌≡◌, Bool}
-use Rattle.std.proofs.Math.Path.{sym, ap}
+use Rattle.std.specs.Prelude.{ℕ, ◌+◌, ◌-◌, ◌*◌, ◌≤◌, ◌<◌, min, ◌≡◌, Bool, Some}
+use Rattle.std.proofs.Math.Path.{refl, sym, ap}
 use Rattle.std.proofs.Common.{ap₂, ◌∙◌, arith}
 use mathlib.Core.List.{List, [], ◌++◌, append_assoc, append-nil}
 use Rattle.std.proofs.Math.Bool.{true}
@@ -11,7 +11,7 @@ use Rattle.xml.specs.Over.{Wrote}
 use Rattle.xml.specs.OverLaws.{wrote_then, wrote_none}
 use Rattle.timestamp.specs.Times.{write_times}
 use Rattle.timestamp.specs.Set.{outside, first_in}
-use Rattle.timestamp.specs.First.{first-low, first_member}
+use Rattle.timestamp.specs.First.{RunFrom, first-low, first_member}
 use Rattle.timestamp.specs.Runs.{rest, rest_end}
 use Rattle.timestamp.specs.Listed.{listed, text_of}
 use Rattle.timestamp.specs.Write.{part, part-short, following, joined-following, rest-next, run_past, rest-first}
@@ -46,10 +46,10 @@ written-end {s} {at = at} {to = to} {lo = lo} p h =
 -- one run more, from `lo` to before `e`
 module _ {s : ℕ → Bool} {old mid : List ℕ} {at to lo e : ℕ} (p : Written s old at mid to lo) (h : lo < 1000)
     (d : e ≡ min (first_in (1024 - lo) (outside s) lo) 1000) where
-  pub past-run : (lo < e) × (e ≤ 1000)
+  past-run : (lo < e) × (e ≤ 1000)
   past-run = (run_past s lo e h (p.member h) d, omega (arith, d))
 
-  pub written-more : {new : List ℕ} {next after : ℕ} → Wrote mid to (part (ltb at to) (lo, e - 1)) after new → next ≡ first_in (1024 - e) s e → Written s old at new after next
+  written-more : {new : List ℕ} {next after : ℕ} → Wrote mid to (part (ltb at to) (lo, e - 1)) after new → next ≡ first_in (1024 - e) s e → Written s old at new after next
   unfolding following
   written-more {new} {next} {after} q n =
       let r = past-run in
@@ -66,3 +66,14 @@ module _ {s : ℕ → Bool} {old mid : List ℕ} {at to lo e : ℕ} (p : Written
         low = omega arith;
         member = λ x. ap s n ∙ first_member s (1024 - e) e (omega arith);
       }
+
+-- the next run is x
+module _ {s : ℕ → Bool} {old mid : List ℕ} {at to : ℕ} (from : ℕ) (p : Written s old at mid to (first_in (1024 - from) s from)) (x : ℕ × ℕ) (r : RunFrom s from (Some x)) where
+  here : Written s old at mid to x.0
+  here = rw (sym r.0) at p
+
+  pub run-inside : (1 ≤ x.0) × (x.0 ≤ x.1) × (x.1 < 1000) × (to ≤ at + 8 * 1000)
+  run-inside = let b = past-run here r.1 r.2 in (here.low, omega (arith, b), omega (arith, b), omega (arith, here.short, r.1))
+
+  pub run-written : {new : List ℕ} {after : ℕ} → Wrote mid to (part (ltb at to) x) after new → Written s old at new after (first_in (1024 - (x.1 + 1)) s (x.1 + 1))
+  run-written q = let z : x.1 + 1 - 1 ≡ x.1 = omega arith in written-more here r.1 r.2 (rw z q) refl

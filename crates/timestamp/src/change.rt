@@ -4,15 +4,36 @@ ghost use Rattle.timestamp.specs.Times.{decimal};
 ghost use Rattle.timestamp.specs.Set.{adding, cut_at};
 ghost use Rattle.timestamp.specs.Place.{IsSet, IsSetTo, LastStart};
 ghost use Rattle.timestamp.specs.Narrow.{NextStart, Bracket, Narrowed};
-ghost use Rattle.timestamp.specs.Change.{Changes};
+ghost use Rattle.timestamp.specs.Change.{is_void, Changes};
 
 use crate::text::{number_at, run_at};
 
-// The first `to` bytes stay; the tail is that of `put_tail`.
+// What comes after the bytes that stay: nothing, or a number, after a dash, after a comma or alone.
+#[derive(Clone, Copy, PartialEq, Eq)]
+pub enum Tail {
+    Nothing,
+    Dashed,
+    Listed,
+    Alone,
+}
+
+// The first `to` bytes stay, and the tail comes after them.
 #[derive(Clone, Copy)]
 pub struct Change {
     pub to: usize,
-    pub tail: usize,
+    pub tail: Tail,
+}
+
+impl Change {
+    // Whether the changed text is empty.
+    pub fn is_empty(self) -> bool
+        ensures { result ≡ is_void self.to self.tail }
+    {
+        match self.tail {
+            Tail::Nothing => self.to == 0,
+            Tail::Dashed | Tail::Listed | Tail::Alone => false,
+        }
+    }
 }
 
 // How many digits a number has.
@@ -33,14 +54,10 @@ fn size(n: usize) -> usize
 fn last_start(text: &[u8]) -> usize
     ensures { LastStart text.now result }
 {
-    let mut at = text.len();
-    while 0 < at {
-        if text[at - 1] == b',' {
-            return at;
-        }
-        at -= 1;
+    match text.iter().rposition(|&b| b == b',') {
+        Some(comma) => comma + 1,
+        None => 0,
     }
-    0
 }
 
 // The text of a set of some of the numbers 1 to n, with n + 1 added: only its last run is read.
@@ -49,23 +66,32 @@ pub fn grown(text: &[u8], n: usize) -> Change
     ensures { Changes text.now (adding (n + 1)) (n + 1) result.to result.tail }
 {
     let at = last_start(text);
-    let run = run_at(text, at, 0);
-    let lo = run.lo;
+    let run = run_at(text, at, 0).unwrap();
     if run.hi < n {
         return Change {
             to: text.len(),
-            tail: 2,
+            tail: Tail::Listed,
         };
     }
-    if lo == run.hi {
+    if run.lo == run.hi {
         return Change {
             to: text.len(),
-            tail: 1,
+            tail: Tail::Dashed,
         };
     }
     Change {
-        to: at + size(lo) + 1,
-        tail: 3,
+        to: at + size(run.lo) + 1,
+        tail: Tail::Alone,
+    }
+}
+
+// The place after a text's first comma, or its end.
+fn first_start(text: &[u8]) -> usize
+    ensures { NextStart text.now 0 result }
+{
+    match text.iter().position(|&b| b == b',') {
+        Some(comma) => comma + 1,
+        None => text.len(),
     }
 }
 
@@ -74,38 +100,24 @@ fn next_start(text: &[u8], at: usize) -> usize
     requires { at ≤ length text.now }
     ensures { NextStart text.now at result }
 {
-    let mut i = at;
-    while i < text.len() {
-        if text[i] == b',' {
-            return i + 1;
-        }
-        i += 1;
-    }
-    i
+    at + first_start(&text[at..])
 }
 
-// Two places of a text, between which a run is sought.
-#[derive(Clone, Copy)]
-pub struct Places {
-    pub lo: usize,
-    pub hi: usize,
-}
-
-// The half of the places where the last run is that begins at v or below it.
-fn halve(text: &[u8], lo: usize, hi: usize, v: usize) -> Places
+// The half of the places lo to hi where the last run is that begins at v or below it.
+fn halve(text: &[u8], lo: usize, hi: usize, v: usize) -> (usize, usize)
     requires { Bracket text.now v lo hi × (lo + 1 < hi) }
-    ensures { Bracket text.now v result.lo result.hi × (result.hi - result.lo < hi - lo) }
+    ensures { Bracket text.now v result.0 result.1 × (result.1 - result.0 < hi - lo) }
 {
     let mid = lo + (hi - lo) / 2;
     let next = next_start(text, mid - 1);
     if hi <= next {
-        return Places { lo: lo, hi: mid };
+        return (lo, mid);
     }
-    let first = number_at(text, next);
+    let first = number_at(text, next).unwrap();
     if first.n <= v {
-        return Places { lo: next, hi: hi };
+        return (next, hi);
     }
-    Places { lo: lo, hi: mid }
+    (lo, mid)
 }
 
 // The place of the last run that begins at v or below it, or of the first run.
@@ -116,9 +128,7 @@ fn narrow(text: &[u8], v: usize) -> usize
     let mut lo = 0;
     let mut hi = text.len();
     while lo + 1 < hi {
-        let part = halve(text, lo, hi, v);
-        lo = part.lo;
-        hi = part.hi;
+        (lo, hi) = halve(text, lo, hi, v);
     }
     lo
 }
@@ -129,20 +139,29 @@ pub fn cut_at(text: &[u8], i: usize) -> Change
     ensures { Changes text.now (cut_at i) i result.to result.tail }
 {
     let at = narrow(text, i);
-    let run = run_at(text, at, 0);
+    let run = run_at(text, at, 0).unwrap();
     let lo = run.lo;
     if i < lo {
-        return Change { to: 0, tail: 0 };
+        return Change {
+            to: 0,
+            tail: Tail::Nothing,
+        };
     }
     if run.hi <= i {
         return Change {
             to: run.to,
-            tail: 0,
+            tail: Tail::Nothing,
         };
     }
     let to = at + size(lo);
     if lo == i {
-        return Change { to: to, tail: 0 };
+        return Change {
+            to,
+            tail: Tail::Nothing,
+        };
     }
-    Change { to: to, tail: 1 }
+    Change {
+        to,
+        tail: Tail::Dashed,
+    }
 }

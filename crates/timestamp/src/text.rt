@@ -3,13 +3,13 @@ ghost use Rattle.std.specs.Prelude.{◌≡◌, true, false, ◌+◌, ◌-◌, �
 ghost use Rattle.timestamp.specs.Times.{belongs as is_in};
 ghost use Rattle.timestamp.specs.Belongs.{dashed, stepped, holds as in_span};
 ghost use Rattle.timestamp.specs.Set.{set_of, empty_set};
-ghost use Rattle.timestamp.specs.Parse.{parsed, pick_outcome, outcome};
-ghost use Rattle.timestamp.specs.Numbers.{NumberAt, Ended, is_first};
-ghost use Rattle.timestamp.specs.RunAt.{RunAt};
-ghost use Rattle.timestamp.specs.TakenText.{earliest_of, TakesText};
+ghost use Rattle.timestamp.specs.Parse.{parsed, pick_outcome, told};
+ghost use Rattle.timestamp.specs.Numbers.{NumberRead, is_first};
+ghost use Rattle.timestamp.specs.RunAt.{RunRead};
+ghost use Rattle.timestamp.specs.TakenText.{TakesText};
 ghost use Rattle.xml.specs.Bytes.{is_digit};
 
-use crate::{Timestamp, fill, take_run};
+use crate::Timestamp;
 use xml::class::is_digit;
 
 // What is read of a run: the dashes in it (2 for more), the number before the last of them, and the number so far (1000 for more).
@@ -24,14 +24,14 @@ pub struct Span {
 fn byte_at(text: &[u8], at: usize) -> u8
     ensures { result ≡ get_or text.now at 44 }
 {
-    if at < text.len() { text[at] } else { b',' }
+    text.get(at).copied().unwrap_or(b',')
 }
 
 // The digit that a byte stands for; 0 for a byte before `0`.
 fn digit(b: u8) -> usize
     ensures { (result ≡ b - 48) × (result < 256) }
 {
-    if b < 48 { 0 } else { (b - 48) as usize }
+    b.saturating_sub(b'0') as usize
 }
 
 // The number n with one digit more.
@@ -39,8 +39,7 @@ fn grow(n: usize, b: u8) -> usize
     requires { n ≤ 1000 }
     ensures { result ≡ min 1000 (10 * n + (b - 48)) }
 {
-    let m = 10 * n + digit(b);
-    if m < 1000 { m } else { 1000 }
+    (10 * n + digit(b)).min(1000)
 }
 
 // One dash more.
@@ -83,19 +82,16 @@ impl Span {
     fn holds(self, v: usize) -> bool
         ensures { result ≡ in_span self v }
     {
-        if self.dashes == 0 {
-            return v == self.n;
+        match self.dashes {
+            0 => v == self.n,
+            1 => (self.lo..=self.n).contains(&v),
+            _ => false,
         }
-        if self.dashes == 1 {
-            if self.lo <= v {
-                return v <= self.n;
-            }
-        }
-        false
     }
 }
 
 // Whether v is in the set with this text: a turn of the outer loop for each run, and in it a turn of the inner loop for each byte of the run.
+// Document 01 asks for this form: a loop over the runs that ends by break, and in it one over the bytes.
 pub fn belongs(text: &[u8], v: usize) -> bool
     requires { v < 1000 }
     ensures { result ≡ is_in v text.now }
@@ -123,7 +119,7 @@ pub fn belongs(text: &[u8], v: usize) -> bool
     }
 }
 
-// A number that a text has at a place, and the place after it; n is 0 where none is read there.
+// A number that a text has at a place, and the place after it.
 #[derive(Clone, Copy)]
 pub struct Number {
     pub n: usize,
@@ -134,68 +130,51 @@ pub struct Number {
 fn is_first(b: u8) -> bool
     ensures { result ≡ is_first b }
 {
-    if 49 <= b { b <= 57 } else { false }
-}
-
-// The number of one digit.
-fn one_digit(a: u8) -> usize
-    requires { is_first a ≡ true }
-    ensures { result ≡ a - 48 }
-{
-    (a as usize) - 48
+    (b'1'..=b'9').contains(&b)
 }
 
 // The number of two digits.
 fn two_digits(a: u8, b: u8) -> usize
-    requires { (is_first a ≡ true) × (is_digit b ≡ true) }
-    ensures { result ≡ a * 10 + b - 528 }
+    ensures { result ≡ 10 * (a - 48) + (b - 48) }
 {
-    (a as usize) * 10 + (b as usize) - 528
-}
-
-// The number of three digits.
-fn three_digits(a: u8, b: u8, c: u8) -> usize
-    requires { (is_first a ≡ true) × (is_digit b ≡ true) × (is_digit c ≡ true) }
-    ensures { result ≡ a * 100 + b * 10 + c - 5328 }
-{
-    (a as usize) * 100 + (b as usize) * 10 + (c as usize) - 5328
+    10 * digit(a) + digit(b)
 }
 
 // The number at a place after which the text has two bytes at most.
-fn short_at(text: &[u8], at: usize) -> Number
+fn short_at(text: &[u8], at: usize) -> Option<Number>
     requires { (at ≤ length text.now) × (length text.now < at + 3) }
-    ensures { NumberAt text.now at result.n result.to × Ended text.now result.n result.to }
+    ensures { NumberRead text.now at result }
 {
     if text.len() <= at {
-        return Number { n: 0, to: at };
+        return None;
     }
     let a = text[at];
     if is_first(a) {
         if text.len() - at < 2 {
-            return Number {
-                n: one_digit(a),
+            return Some(Number {
+                n: digit(a),
                 to: at + 1,
-            };
+            });
         }
         let b = text[at + 1];
         if is_digit(b) {
-            return Number {
+            return Some(Number {
                 n: two_digits(a, b),
                 to: at + 2,
-            };
+            });
         }
-        return Number {
-            n: one_digit(a),
+        return Some(Number {
+            n: digit(a),
             to: at + 1,
-        };
+        });
     }
-    Number { n: 0, to: at }
+    None
 }
 
 // The number at a place after which the text has three bytes or more, of which three digits at most are read.
-fn long_at(text: &[u8], at: usize) -> Number
+fn long_at(text: &[u8], at: usize) -> Option<Number>
     requires { at + 3 ≤ length text.now }
-    ensures { NumberAt text.now at result.n result.to × Ended text.now result.n result.to }
+    ensures { NumberRead text.now at result }
 {
     let a = text[at];
     if is_first(a) {
@@ -203,28 +182,28 @@ fn long_at(text: &[u8], at: usize) -> Number
         if is_digit(b) {
             let c = text[at + 2];
             if is_digit(c) {
-                return Number {
-                    n: three_digits(a, b, c),
+                return Some(Number {
+                    n: 10 * two_digits(a, b) + digit(c),
                     to: at + 3,
-                };
+                });
             }
-            return Number {
+            return Some(Number {
                 n: two_digits(a, b),
                 to: at + 2,
-            };
+            });
         }
-        return Number {
-            n: one_digit(a),
+        return Some(Number {
+            n: digit(a),
             to: at + 1,
-        };
+        });
     }
-    Number { n: 0, to: at }
+    None
 }
 
 // The number at a place.
-pub(crate) fn number_at(text: &[u8], at: usize) -> Number
+pub(crate) fn number_at(text: &[u8], at: usize) -> Option<Number>
     requires { at ≤ length text.now }
-    ensures { NumberAt text.now at result.n result.to × Ended text.now result.n result.to }
+    ensures { NumberRead text.now at result }
 {
     if text.len() - at < 3 {
         short_at(text, at)
@@ -233,14 +212,7 @@ pub(crate) fn number_at(text: &[u8], at: usize) -> Number
     }
 }
 
-// A text's set, where it is the text of one.
-#[derive(Clone, Copy)]
-pub struct Parsed {
-    pub ok: bool,
-    pub stamp: Timestamp,
-}
-
-// A run that a text has at a place: its first and its last number, and the place after it; hi is 0 where none past the bound is read there.
+// A run that a text has at a place: its first and its last number, and the place after it.
 #[derive(Clone, Copy)]
 pub struct Run {
     pub lo: usize,
@@ -249,96 +221,76 @@ pub struct Run {
 }
 
 // The run at a place near the text's end, which must begin past the bound p.
-fn end_run_at(text: &[u8], at: usize, p: usize) -> Run
+fn end_run_at(text: &[u8], at: usize, p: usize) -> Option<Run>
     requires { at ≤ length text.now }
-    ensures { RunAt text.now at p result.lo result.hi result.to }
+    ensures { RunRead text.now at p result }
 {
-    let first = number_at(text, at);
-    let lo = first.n;
-    let to = first.to;
-    if lo <= p {
-        return Run {
-            lo: 0,
-            hi: 0,
-            to: at,
-        };
+    let first = number_at(text, at)?;
+    if first.n <= p {
+        return None;
     }
-    if byte_at(text, to) != b'-' {
-        return Run {
-            lo: lo,
-            hi: lo,
-            to: to,
-        };
+    if byte_at(text, first.to) != b'-' {
+        return Some(Run {
+            lo: first.n,
+            hi: first.n,
+            to: first.to,
+        });
     }
-    let last = number_at(text, to + 1);
-    if last.n <= lo {
-        return Run {
-            lo: 0,
-            hi: 0,
-            to: at,
-        };
+    let last = number_at(text, first.to + 1)?;
+    if last.n <= first.n {
+        return None;
     }
-    Run {
-        lo: lo,
+    Some(Run {
+        lo: first.n,
         hi: last.n,
         to: last.to,
-    }
+    })
 }
 
-// The run at a place, which must begin past the bound p; a run has seven bytes at most.
-pub fn run_at(text: &[u8], at: usize, p: usize) -> Run
+// The run at a place, which must begin past the bound p. A run has seven bytes at most: where there are as many, they are read without a look at
+// the text's end at each.
+pub fn run_at(text: &[u8], at: usize, p: usize) -> Option<Run>
     requires { at ≤ length text.now }
-    ensures { RunAt text.now at p result.lo result.hi result.to }
+    ensures { RunRead text.now at p result }
 {
     if text.len() - at < 7 {
         return end_run_at(text, at, p);
     }
-    let first = long_at(text, at);
-    let lo = first.n;
-    let to = first.to;
-    if lo <= p {
-        return Run {
-            lo: 0,
-            hi: 0,
-            to: at,
-        };
+    let first = long_at(text, at)?;
+    if first.n <= p {
+        return None;
     }
-    if text[to] != b'-' {
-        return Run {
-            lo: lo,
-            hi: lo,
-            to: to,
-        };
+    if text[first.to] != b'-' {
+        return Some(Run {
+            lo: first.n,
+            hi: first.n,
+            to: first.to,
+        });
     }
-    let last = long_at(text, to + 1);
-    if last.n <= lo {
-        return Run {
-            lo: 0,
-            hi: 0,
-            to: at,
-        };
+    let last = long_at(text, first.to + 1)?;
+    if last.n <= first.n {
+        return None;
     }
-    Run {
-        lo: lo,
+    Some(Run {
+        lo: first.n,
         hi: last.n,
         to: last.to,
-    }
+    })
 }
 
-// Reads the set with this text into words that hold none; refused where it is the text of no set of numbers 1 to 999, or of the empty one.
+// Reads the set with this text into one that has no number; refused where it is the text of no set of numbers 1 to 999, or of the empty one.
 // A turn of the loop for each run.
-pub fn parse_into(words: &mut [u64; 16], text: &[u8]) -> bool
-    requires { (length words.old ≡ 16) × (set_of words.old ≡ empty_set) }
-    ensures { (pick_outcome result (set_of words.new) ≡ parsed text.now) × (length words.new ≡ 16) }
+pub fn parse_into(set: &mut Timestamp, text: &[u8]) -> bool
+    requires { set_of set.old.words ≡ empty_set }
+    ensures { (pick_outcome result (set_of set.new.words) ≡ parsed text.now) × (length set.new.words ≡ 16) }
 {
     let mut p = 0;
     let mut at = 0;
     loop {
-        let run = run_at(text, at, p);
-        if run.hi == 0 {
+        let Some(run) = run_at(text, at, p) else {
             return false;
-        }
-        fill(words, run.lo, run.hi);
+        };
+        set.fill(run.lo, run.hi);
         p = run.hi + 1;
         at = run.to;
         if text.len() <= at {
@@ -352,53 +304,40 @@ pub fn parse_into(words: &mut [u64; 16], text: &[u8]) -> bool
 }
 
 // The set with this text; refused where it is the text of no set of numbers 1 to 999, or of the empty one.
-pub fn parse(text: &[u8]) -> Parsed
-    ensures { outcome result ≡ parsed text.now }
+pub fn parse(text: &[u8]) -> Option<Timestamp>
+    ensures { told result ≡ parsed text.now }
 {
-    let mut words = [0u64; 16];
-    let ok = parse_into(&mut words, text);
-    Parsed {
-        ok,
-        stamp: Timestamp { words },
+    let mut set = Timestamp::empty();
+    if parse_into(&mut set, text) {
+        Some(set)
+    } else {
+        None
     }
 }
 
-// The first number read, where `first` is 0 as long as none is.
-fn earliest(first: usize, lo: usize) -> usize
-    ensures { result ≡ earliest_of first lo }
+// Takes the set with this text out of another, run by run, and answers its first number; none where it is the text of no set, or a number
+// was not there, and then the other set is of no use.
+pub fn take_text(left: &mut Timestamp, text: &[u8]) -> Option<usize>
+    ensures { TakesText text.now left.old.words left.new.words result }
 {
-    if first == 0 {
-        return lo;
-    }
-    first
-}
-
-// Takes the set with this text out of the words' set, run by run, and answers its first number; 0 where it is the text of no set, or a number
-// was not there, and then the words are of no use.
-pub fn take_text(left: &mut [u64; 16], text: &[u8]) -> usize
-    requires { length left.old ≡ 16 }
-    ensures { TakesText text.now left.old left.new result }
-{
-    let mut first = 0;
+    let mut first: Option<usize> = None;
     let mut bound = 0;
     let mut at = 0;
     loop {
-        let run = run_at(text, at, bound);
-        if run.hi == 0 {
-            return 0;
+        let run = run_at(text, at, bound)?;
+        if !left.take_run(run.lo, run.hi) {
+            return None;
         }
-        if !take_run(left, run.lo, run.hi) {
-            return 0;
-        }
-        first = earliest(first, run.lo);
+        let start = first.unwrap_or(run.lo);
         bound = run.hi + 1;
         at = run.to;
         if text.len() <= at {
-            return first;
+            return Some(start);
         }
         if text[at] != b',' {
-            return 0;
+            return None;
         }
+        first = Some(start);
         at += 1;
     }
 }

@@ -9,8 +9,9 @@ ghost use Rattle.timestamp.specs.Write.{part};
 ghost use Rattle.timestamp.specs.Change.{tail_text};
 ghost use Rattle.timestamp.specs.Longest.{longest};
 
-use crate::{Timestamp, gap_in, next_in};
-use xml::writer::{least, put, put_word};
+use crate::Timestamp;
+use crate::change::Tail;
+use xml::writer::{put, put_word};
 
 // The byte of a digit.
 fn digit(d: usize) -> u8
@@ -44,6 +45,15 @@ fn put_number(out: &mut [u8], at: usize, n: usize) -> usize
     put_digit(out, j, n % 10)
 }
 
+// Writes a byte, and then a number.
+fn put_marked(mark: u8, out: &mut [u8], at: usize, n: usize) -> usize
+    requires { (1 ≤ n) × (n < 1000) × (at < 2 ^ 63 - 12) }
+    ensures { Wrote out.old at (mark ∷ decimal n) result out.new }
+{
+    let i = put(mark, out, at);
+    put_number(out, i, n)
+}
+
 // Writes a run, `5` or `1-3`.
 fn put_run(out: &mut [u8], at: usize, lo: usize, hi: usize) -> usize
     requires { (1 ≤ lo) × (lo ≤ hi) × (hi < 1000) × (at < 2 ^ 63 - 16) }
@@ -53,8 +63,7 @@ fn put_run(out: &mut [u8], at: usize, lo: usize, hi: usize) -> usize
     if lo == hi {
         return i;
     }
-    let j = put(b'-', out, i);
-    put_number(out, j, hi)
+    put_marked(b'-', out, i, hi)
 }
 
 // Writes a run, after a comma where one was written before it.
@@ -118,32 +127,25 @@ pub fn put_longest(n: usize, out: &mut [u8], at: usize) -> usize
     requires { (n ≤ 999) × (at < 2 ^ 61) }
     ensures { Wrote out.old at (write_times (longest n)) result out.new }
 {
-    let mut k = n % 3;
+    let k = n % 3;
     let mut to = put_up_to(out, at, k);
-    while k < n {
-        to = put_pair(out, to, k);
-        k += 3;
+    for i in 0..n / 3 {
+        to = put_pair(out, to, k + 3 * i);
     }
     to
 }
 
 // Writes what comes after the bytes of a set's text that stay: nothing, `-` and v, `,` and v, or v.
-pub fn put_tail(tail: usize, v: usize, out: &mut [u8], at: usize) -> usize
-    requires { (tail < 4) × (1 ≤ v) × (v < 1000) × (at < 2 ^ 62) }
+pub fn put_tail(tail: Tail, v: usize, out: &mut [u8], at: usize) -> usize
+    requires { (1 ≤ v) × (v < 1000) × (at < 2 ^ 62) }
     ensures { Wrote out.old at (tail_text tail v) result out.new }
 {
-    if tail == 0 {
-        return at;
+    match tail {
+        Tail::Nothing => at,
+        Tail::Dashed => put_marked(b'-', out, at, v),
+        Tail::Listed => put_marked(b',', out, at, v),
+        Tail::Alone => put_number(out, at, v),
     }
-    if tail == 1 {
-        let i = put(b'-', out, at);
-        return put_number(out, i, v);
-    }
-    if tail == 2 {
-        let i = put(b',', out, at);
-        return put_number(out, i, v);
-    }
-    put_number(out, at, v)
 }
 
 impl Timestamp {
@@ -152,13 +154,12 @@ impl Timestamp {
         requires { at < 2 ^ 61 }
         ensures { Wrote out.old at (text_of (set_of self.words)) result out.new }
     {
-        let words = self.words;
+        let gaps = self.complement();
         let mut to = at;
-        let mut lo = next_in(&words, 1);
-        while lo < 1000 {
-            let end = least(gap_in(&words, lo), 1000);
-            to = put_part(out, to, at < to, lo, end - 1);
-            lo = next_in(&words, end);
+        let mut from = 1;
+        while let Some((lo, hi)) = self.next_run(&gaps, from) {
+            to = put_part(out, to, at < to, lo, hi);
+            from = hi + 1;
         }
         to
     }

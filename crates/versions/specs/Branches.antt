@@ -14,8 +14,7 @@ use Rattle.xml.specs.Truth.{by-test, clash, not_so, and_left, and_right, or-firs
 use Rattle.keys.specs.Legal.{untimed}
 use Rattle.timestamp.specs.Set.{set_of, empty_set, up_to, joined, same_set, apart, subset, first_in}
 use Rattle.timestamp.specs.Tests.{same-tells, apart-tells}
-use Rattle.timestamp.specs.Parse.{Outcome, refused, accepted, parsed, pick_outcome, outcome}
-use Rattle.timestamp.specs.declared.text.Parsed.{Parsed}
+use Rattle.timestamp.specs.Parse.{Outcome, refused, accepted, parsed, Parsed, pick_outcome, outcome}
 
 -- ---- a node and those after it
 pub record First (src cells : List ℕ) (p q : ℕ) (f : Forest) : Type 0 where

@@ -1,5 +1,6 @@
 -- The set of a sibling in an archive: that of its parent if it is bare, and that of its `T`, around one element, if not.
-use Rattle.std.specs.Prelude.{ℕ, ◌+◌, ◌%◌, ◌<◌, ◌≤◌, ◌≡◌, Bool, true, ◌&&◌, List, eqb}
+use Rattle.std.proofs.lemmas.Option.{IfSome_then}
+use Rattle.std.specs.Prelude.{Option, Some, None, is_some, IfSome, ℕ, ◌+◌, ◌%◌, ◌<◌, ◌≤◌, ◌≡◌, Bool, true, ◌&&◌, List, eqb}
 use Rattle.std.proofs.Common.{arith, ◌∙◌}
 use Rattle.std.proofs.Math.Path.{refl, sym, ap, ap₂}
 use Rattle.std.proofs.Math.Bool.{false, not}
@@ -9,14 +10,14 @@ use Rattle.xml.specs.Forest.{Forest, end, elem, text, stamp}
 use Rattle.xml.specs.Read.{is_end}
 use Rattle.xml.specs.Tape.{head_at, next_at, Tape, at-end, at-text, at-elem, at-stamp}
 use Rattle.xml.specs.TapeLaws.{bytes_at, tape-le}
-use Rattle.xml.specs.Truth.{by-test, clash, and_left}
+use Rattle.xml.specs.Truth.{by-test, and_left}
 use Rattle.timestamp.specs.Times.{Times, same_times}
 use Rattle.timestamp.specs.Set.{set_of, up_to, same_set, subset}
 use Rattle.timestamp.specs.Tests.{subset-tells}
 use Rattle.timestamp.specs.Listed.{listed, Only, only-up-to, same-listed}
-use Rattle.timestamp.specs.Parse.{refused, accepted, parsed}
+use Rattle.timestamp.specs.Parse.{refused, accepted, parsed, Parsed}
 use Rattle.timestamp.specs.Parses.{text-parse}
-use Rattle.timestamp.specs.declared.text.Parsed.{Parsed}
+use Rattle.timestamp.specs.declared.Timestamp.{Timestamp}
 use Rattle.versions.specs.Walk.{times_in, canonical, ever, within, is_sole}
 use Rattle.versions.specs.ListedLaws.{within-listed}
 use Rattle.versions.specs.LegalTexts.{fits, legal-text, legal-set}
@@ -41,11 +42,10 @@ stands-in n t s e f = rw (e, f)
 unfoldable pub times_legal : ℕ → Times → Bytes → Bool
 times_legal n t l = canonical n l && ever (times_in n l) && within (times_in n l) t && not (same_times (times_in n l) t)
 
--- what is answered of a text
-pub record TimesRead (n : ℕ) (t : ℕ → Bool) (l : Bytes) (r : Parsed) : Type 0 where
-  pub ok-is : r.ok ≡ times_legal n (listed n t) l
-  pub only : r.ok ≡ true → Only n (set_of r.stamp.words)
-  pub own : r.ok ≡ true → listed n (set_of r.stamp.words) ≡ times_in n l
+-- what is answered of a text: its set, if it is that of such a `T`
+pub record TimesRead (n : ℕ) (t : ℕ → Bool) (l : Bytes) (r : Option Timestamp) : Type 0 where
+  pub some-is : is_some r ≡ times_legal n (listed n t) l
+  pub own : IfSome r (λ s. Only n (set_of s.words) × (listed n (set_of s.words) ≡ times_in n l))
 
 module _ (n : ℕ) (t : ℕ → Bool) (l : Bytes) (h : n ≤ 999) (o : Only n t) where
   text-refused : parsed l ≡ refused → times_legal n (listed n t) l ≡ false
@@ -68,18 +68,21 @@ module _ (n : ℕ) (t : ℕ → Bool) (l : Bytes) (h : n ≤ 999) (o : Only n t)
         ap₂ (λ x y. x && y) (ap₂ (λ x y. x && y) read-it w) (ap not q))
         (λ d. ap (λ x. x && within (times_in n l) (listed n t) && not (same_times (times_in n l) (listed n t))) (read-it ∙ d) ∙ sym (ap (λ x. x && subset s t && not (same_set s t)) d))
 
-  pub read-refused : (r : Parsed) → parsed l ≡ refused → r.ok ≡ false → TimesRead n t l r
-  read-refused r e d = record { ok-is = d ∙ sym (text-refused e); only = λ x. clash (sym x ∙ d); own = λ x. clash (sym x ∙ d) }
+  pub read-refused : parsed l ≡ refused → TimesRead n t l None
+  read-refused e = record { some-is = sym (text-refused e); own = tt }
 
-  pub read-accepted : (r : Parsed) → parsed l ≡ accepted (set_of r.stamp.words) → r.ok ≡ stands n t (set_of r.stamp.words) → TimesRead n t l r
-  unfolding stands
-  read-accepted r e d =
-      let s = set_of r.stamp.words in
-      record {
-        ok-is = d ∙ sym (text-stands s e);
-        only = λ x. only-in s e (and_left (subset s (up_to n)) (subset s t) (and_left (subset s (up_to n) && subset s t) (not (same_set s t)) (sym d ∙ x)));
-        own = λ x. sym (legal-set n l h s e);
-      }
+  module _ (s : Timestamp) (e : parsed l ≡ accepted (set_of s.words)) where
+    pub read-apart : stands n t (set_of s.words) ≡ false → TimesRead n t l None
+    read-apart d = record { some-is = sym (text-stands (set_of s.words) e ∙ d); own = tt }
+
+    pub read-accepted : stands n t (set_of s.words) ≡ true → TimesRead n t l (Some s)
+    unfolding stands
+    read-accepted d =
+        let g = set_of s.words in
+        record {
+          some-is = sym (text-stands g e ∙ d);
+          own = (only-in g e (and_left (subset g (up_to n)) (subset g t) (and_left (subset g (up_to n) && subset g t) (not (same_set g t)) d)), sym (legal-set n l h g e));
+        }
 
 -- ---- one element and nothing else
 module _ {src cells : List ℕ} where
@@ -124,37 +127,41 @@ own_times n t (text b r) = t
 own_times n t (elem m k r) = t
 own_times n t (stamp s k r) = times_in n s
 
--- what is answered of it
-pub record OwnRead (n : ℕ) (t : ℕ → Bool) (f : Forest) (r : Parsed) : Type 0 where
-  pub ok-is : r.ok ≡ own_legal n (listed n t) f
-  pub only : r.ok ≡ true → Only n (set_of r.stamp.words)
-  pub own : r.ok ≡ true → listed n (set_of r.stamp.words) ≡ own_times n (listed n t) f
+-- what is answered of it: its set, if it has one
+pub record OwnRead (n : ℕ) (t : ℕ → Bool) (f : Forest) (r : Option Timestamp) : Type 0 where
+  pub some-is : is_some r ≡ own_legal n (listed n t) f
+  pub own : IfSome r (λ s. Only n (set_of s.words) × (listed n (set_of s.words) ≡ own_times n (listed n t) f))
 
 module _ {src cells : List ℕ} (n : ℕ) (t : ℕ → Bool) (o : Only n t) {p q : ℕ} where
-  -- a bare sibling
-  pub own_bare : {f : Forest} (r : Parsed) → Tape src cells p q f → p < q → (head_at cells p % 4 ≡ 2 → ⊥) → set_of r.stamp.words ≡ t → r.ok ≡ eqb (head_at cells p % 4) 1 → OwnRead n t f r
+  -- text
+  pub own-text : {f : Forest} → Tape src cells p q f → p < q → head_at cells p % 4 ≡ 0 → OwnRead n t f None
+  unfolding own_legal
+  own-text (at-end e) l k = absurd (omega arith)
+  own-text (at-text i u e a) l k = record { some-is = refl; own = tt }
+  own-text (at-elem i a b) l k = absurd (omega (arith, i.kind-is))
+  own-text (at-stamp i a b) l k = absurd (omega (arith, i.kind-is))
+
+  -- a bare element
+  pub own_bare : {f : Forest} (r : Timestamp) → Tape src cells p q f → p < q → head_at cells p % 4 ≡ 1 → set_of r.words ≡ t → OwnRead n t f (Some r)
   unfolding own_legal own_times
-  own_bare r (at-end e) l k z d = absurd (omega arith)
-  own_bare r (at-text i u e a) l k z d =
-      let w : r.ok ≡ false = d ∙ ne_eqb (head_at cells p % 4) 1 (λ y. absurd (omega (arith, i.kind-is))) in
-      record { ok-is = w; only = λ x. clash (sym x ∙ w); own = λ x. clash (sym x ∙ w) }
-  own_bare r (at-elem i a b) l k z d = record { ok-is = d ∙ eq-eqb (head_at cells p % 4) 1 i.kind-is; only = λ x. rw z o; own = λ x. ap (listed n) z }
-  own_bare r (at-stamp i a b) l k z d = absurd (k i.kind-is)
+  own_bare r (at-end e) l k z = absurd (omega arith)
+  own_bare r (at-text i u e a) l k z = absurd (omega (arith, i.kind-is))
+  own_bare r (at-elem i a b) l k z = record { some-is = refl; own = (rw z o, ap (listed n) z) }
+  own_bare r (at-stamp i a b) l k z = absurd (omega (arith, i.kind-is))
 
   -- a `T` that is around more or less than an element
-  pub own-crowd : {f : Forest} (r : Parsed) → Tape src cells p q f → p < q → head_at cells p % 4 ≡ 2 → ((k : Forest) → Tape src cells (p + 1) (next_at cells p) k → is_sole k ≡ false) → r.ok ≡ false → OwnRead n t f r
-  unfolding own_legal own_times
-  own-crowd r (at-end e) l k z d = absurd (omega arith)
-  own-crowd r (at-text i u e a) l k z d = absurd (omega (arith, i.kind-is))
-  own-crowd r (at-elem i a b) l k z d = absurd (omega (arith, i.kind-is))
-  own-crowd r (at-stamp {t = s} {k = g} i a b) l k z d =
+  pub own-crowd : {f : Forest} → Tape src cells p q f → p < q → head_at cells p % 4 ≡ 2 → ((k : Forest) → Tape src cells (p + 1) (next_at cells p) k → is_sole k ≡ false) → OwnRead n t f None
+  unfolding own_legal
+  own-crowd (at-end e) l k z = absurd (omega arith)
+  own-crowd (at-text i u e a) l k z = absurd (omega (arith, i.kind-is))
+  own-crowd (at-elem i a b) l k z = absurd (omega (arith, i.kind-is))
+  own-crowd (at-stamp {t = s} {k = g} i a b) l k z =
       record {
-        ok-is = d ∙ sym (ap (λ x. x && canonical n s && ever (times_in n s) && within (times_in n s) (listed n t) && not (same_times (times_in n s) (listed n t))) (z g a));
-        only = λ x. clash (sym x ∙ d);
-        own = λ x. clash (sym x ∙ d);
+        some-is = sym (ap (λ x. x && canonical n s && ever (times_in n s) && within (times_in n s) (listed n t) && not (same_times (times_in n s) (listed n t))) (z g a));
+        own = tt;
       }
 
-  pub own-timed : {f : Forest} (r : Parsed) → Tape src cells p q f → p < q → head_at cells p % 4 ≡ 2 → ((k : Forest) → Tape src cells (p + 1) (next_at cells p) k → is_sole k ≡ true)
+  pub own-timed : {f : Forest} (r : Option Timestamp) → Tape src cells p q f → p < q → head_at cells p % 4 ≡ 2 → ((k : Forest) → Tape src cells (p + 1) (next_at cells p) k → is_sole k ≡ true)
       → TimesRead n t (bytes_at src cells p) r → OwnRead n t f r
   unfolding own_legal own_times times_legal
   own-timed r (at-end e) l k z d = absurd (omega arith)
@@ -162,8 +169,7 @@ module _ {src cells : List ℕ} (n : ℕ) (t : ℕ → Bool) (o : Only n t) {p q
   own-timed r (at-elem i a b) l k z d = absurd (omega (arith, i.kind-is))
   own-timed r (at-stamp {t = s} {k = g} i a b) l k z d =
       record {
-        ok-is = d.ok-is ∙ ap (times_legal n (listed n t)) i.bytes-are
+        some-is = d.some-is ∙ ap (times_legal n (listed n t)) i.bytes-are
             ∙ sym (ap (λ x. x && canonical n s && ever (times_in n s) && within (times_in n s) (listed n t) && not (same_times (times_in n s) (listed n t))) (z g a));
-        only = d.only;
-        own = λ x. d.own x ∙ ap (times_in n) i.bytes-are;
+        own = IfSome_then r d.own (λ _ h. (h.0, h.1 ∙ ap (times_in n) i.bytes-are));
       }

@@ -12,7 +12,7 @@ use Rattle.timestamp.specs.Times.{always, write_times, last_number}
 use Rattle.timestamp.specs.TimesLaws.{last-always}
 use Rattle.timestamp.specs.Set.{up_to, outside, same_set, first_in}
 use Rattle.timestamp.specs.Tests.{same-tells, same-told}
-use Rattle.timestamp.specs.First.{first-is}
+use Rattle.timestamp.specs.First.{first-is, first-high}
 use Rattle.timestamp.specs.Listed.{text_of, Only, only-up-to, only-more, only-past, listed-cong, text-inj, text-up-to}
 use Rattle.timestamp.specs.Parse.{refused, accepted, parsed}
 use Rattle.timestamp.specs.Parses.{text-parse, parse-text}
@@ -106,3 +106,10 @@ module _ (s : Bytes) where
         let w = outer_tells h in
         let q : n ≡ last_number s = gap-after (last_number s) w.0 w.1 (set-up-to h) in
         omega (arith, w.0, q))) ∙ sym z)
+
+  -- one that is read as the set t, which has no gap from 1 on
+  pub outer-none : (t g : ℕ → Bool) → parsed s ≡ accepted t → g ≡ outside t → 1024 ≤ first_in (1024 - 1) g 1 → outer_last s ≡ 0
+  outer-none t g e gaps far =
+      let z : first_in (1024 - 1) g 1 - 1 ≡ 1023 = omega (arith, first-high g (1024 - 1) 1) in
+      by-test (same_set t (up_to 1023)) (λ d. absurd (omega (arith, outer-most, outer_same t g e gaps 1023 (sym z) d)))
+      (λ d. outer-other t g e gaps 1023 (sym z) d)

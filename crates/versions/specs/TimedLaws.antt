@@ -18,6 +18,7 @@ use Rattle.timestamp.specs.Parse.{Outcome, refused, accepted, parsed}
 use Rattle.timestamp.specs.Parses.{text-parse}
 use Rattle.timestamp.specs.Place.{IsSetTo}
 use Rattle.timestamp.specs.Change.{tail_text, Changes}
+use Rattle.timestamp.specs.declared.change.Tail.{Tail}
 use Rattle.versions.specs.Walk.{times_in, newest}
 use Rattle.versions.specs.LegalTexts.{fits, legal-text, legal-set}
 use Rattle.versions.specs.AddParts.{Holds, Says, LegalSet}
@@ -81,14 +82,14 @@ unfolding newest
 wrote-newest n s f h e x = rw (newest-text n s h e) at x
 
 -- ---- the text of a changed set is short
-pub change-short : {to tail v : ℕ} {g : (ℕ → Bool) → ℕ → Bool} (l : Bytes) (s : ℕ → Bool) → parsed l ≡ accepted s → Changes l g v to tail → to + length (tail_text tail v) ≤ 3000
-change-short {to} {tail} {v} {g} l s f c =
+pub change-short : {to v : ℕ} {tail : Tail} {g : (ℕ → Bool) → ℕ → Bool} (l : Bytes) (s : ℕ → Bool) → parsed l ≡ accepted s → Changes l g v to tail → to + length (tail_text tail v) ≤ 3000
+change-short {to} {v} {tail} {g} l s f c =
     omega (arith, text-short (g s), ap length (c.becomes s f) ∙ length-append (take to l) (tail_text tail v), length-take-le to l c.inside)
 
 -- ---- the text of a changed set, where the set's own is a part of a text
-pub changed-text : {to tail v : ℕ} {g : (ℕ → Bool) → ℕ → Bool} (a e : ℕ) (src : Bytes) (s : ℕ → Bool) → a ≤ e → e ≤ length src → parsed (slice a e src) ≡ accepted s
+pub changed-text : {to v : ℕ} {tail : Tail} {g : (ℕ → Bool) → ℕ → Bool} (a e : ℕ) (src : Bytes) (s : ℕ → Bool) → a ≤ e → e ≤ length src → parsed (slice a e src) ≡ accepted s
     → Changes (slice a e src) g v to tail → text_of (g s) ≡ slice a (a + to) src ++ tail_text tail v
-changed-text {to} {tail} {v} a e src s l w f c =
+changed-text {to} {v} {tail} a e src s l w f c =
     let m : to ≤ e - a = omega (arith, c.inside, length-slice a e src w) in
     let y : take to (slice a e src) ≡ slice a (a + to) src = ap (take to) (sym (part_slice a e src l)) ∙ take-take to (e - a) (drop a src) m ∙ sym (slice-part a to src) in
     c.becomes s f ∙ ap (λ t. t ++ tail_text tail v) y

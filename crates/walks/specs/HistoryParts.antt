@@ -1,10 +1,13 @@
 -- The walk of a history down the steps of an address: what its functions ask and answer.
-use Rattle.std.specs.Prelude.{ℕ, ◌+◌, ◌%◌, ◌<◌, ◌≤◌, ◌≡◌, refl, true, false, List, [], eqb, length}
+use Rattle.std.specs.Borrow.{Bor}
+use Rattle.std.specs.Prelude.{Option, MatchOption, ℕ, ◌+◌, ◌%◌, ◌<◌, ◌≤◌, ◌≡◌, refl, true, false, List, [], eqb, length}
 use Rattle.std.proofs.Common.{arith, eq-eqb, ne_eqb}
-use Rattle.std.proofs.Math.Seq.{slice}
+use Rattle.std.proofs.Math.Seq.{slice, length-slice}
 use Rattle.xml.specs.Bytes.{Bytes}
 use Rattle.xml.specs.Forest.{Forest}
-use Rattle.xml.specs.Tape.{head_at, next_at, start_in, end_in, Tape}
+use Rattle.xml.specs.Truth.{bool_by}
+use Rattle.xml.specs.TapeLaws.{bytes_at}
+use Rattle.xml.specs.Tape.{head_at, start_in, end_in, Tape}
 use Rattle.keys.specs.Result.{ok}
 use Rattle.keys.specs.KeyList.{Path, KeyList}
 use Rattle.keys.specs.Version.{◌▸◌, Label, name_in}
@@ -13,10 +16,8 @@ use Rattle.keys.specs.AddressParts.{StepAs, ParsedAs}
 use Rattle.keys.specs.Table.{Table}
 use Rattle.keys.specs.declared.address.Parsed.{Parsed}
 use Rattle.timestamp.specs.Times.{Times}
-use Rattle.walks.specs.declared.history.Around.{Around}
-use Rattle.walks.specs.declared.history.Stand.{Stand}
 use Rattle.versions.specs.Walk.{siblings_legal, forest_legal, history_forest}
-use Rattle.versions.specs.HistoryTape.{element_at, element-timed, element-bare, StepAt}
+use Rattle.versions.specs.HistoryTape.{element_at, near_at, Reached, StepAt}
 
 -- the nodes lo to hi are legal siblings, and a step of the address s is one of an element among them
 pub record StepSought (text : Bytes) (table : List ℕ) (n : ℕ) (s : Bytes) (name place : ℕ) (values src cells : List ℕ) (lo hi : ℕ) : Type 0 where
@@ -37,26 +38,27 @@ OfStep text table n s name place values src cells lo hi P =
     (K : KeyList) (m : ℕ) (q : Path) (l : Label) (t : Times) (f : Forest) → Table text table n K → StepAs K s l (q ▸ name_in l) name place values
     → Tape src cells lo hi f → siblings_legal K m q t f ≡ true → P K m q l t f
 
-abbrev pub StepFound : Bytes → List ℕ → ℕ → Bytes → ℕ → ℕ → List ℕ → List ℕ → List ℕ → ℕ → ℕ → ℕ → Type 0
+abbrev pub StepFound : Bytes → List ℕ → ℕ → Bytes → ℕ → ℕ → List ℕ → List ℕ → List ℕ → ℕ → ℕ → Option ℕ → Type 0
 StepFound text table n s name place values src cells lo hi r =
-    OfStep text table n s name place values src cells lo hi (λ K m q l t f. StepAt src cells K m q l hi f r)
+    MatchOption r (OfStep text table n s name place values src cells lo hi (λ K m q l t f. StepAt src cells K m q l hi f hi))
+    (λ p. OfStep text table n s name place values src cells lo hi (λ K m q l t f. Reached src cells K m q l f p))
 
--- in the element of the sibling p
-abbrev pub entered : List ℕ → ℕ → ℕ → ℕ → Stand
-entered cells p start end =
-    record {
-      start = elim (eqb (head_at cells p % 4) 2) [ true ↦ start_in (head_at cells p) | false ↦ start ];
-      end = elim (eqb (head_at cells p % 4) 2) [ true ↦ end_in (head_at cells p) | false ↦ end ];
-      lo = element_at cells p + 1;
-      hi = next_at cells p;
-    }
+-- the text of a node has less than 32,768 bytes
+pub short-part : (src : Bytes) (x : ℕ) → end_in x ≤ length src → length (slice (start_in x) (end_in x) src) ≤ 32767
+short-part src x w = let e = length-slice (start_in x) (end_in x) src w in omega (arith, e)
 
-module _ (cells : List ℕ) (p start end : ℕ) where
-  pub entered-timed : head_at cells p % 4 ≡ 2 → record { start = start_in (head_at cells p); end = end_in (head_at cells p); lo = p + 2; hi = next_at cells p } ≡ entered cells p start end
-  entered-timed h = let z : p + 2 ≡ p + 1 + 1 = omega arith in rw (eq-eqb (head_at cells p % 4) 2 h, element-timed cells p h, z) refl
+pub element-most : (cells : List ℕ) (p : ℕ) → element_at cells p ≤ p + 1
+unfolding element_at
+element-most cells p = bool_by (λ t. elim t as (λ _. ℕ) [ true ↦ p + 1 | false ↦ p ] ≤ p + 1) (eqb (head_at cells p % 4) 2) (λ _. omega arith) (λ _. omega arith)
 
-  pub entered-bare : (head_at cells p % 4 ≡ 2 → ⊥) → record { start = start; end = end; lo = p + 1; hi = next_at cells p } ≡ entered cells p start end
-  entered-bare h = rw (ne_eqb (head_at cells p % 4) 2 h, element-bare cells p h) refl
+module _ (src cells : List ℕ) (p : ℕ) (around : Bytes) where
+  pub near-timed : head_at cells p % 4 ≡ 2 → bytes_at src cells p ≡ near_at src cells p around
+  unfolding near_at
+  near-timed h = rw (near_at, eq-eqb (head_at cells p % 4) 2 h) refl
+
+  pub near-bare : (head_at cells p % 4 ≡ 2 → ⊥) → around ≡ near_at src cells p around
+  unfolding near_at
+  near-bare h = rw (near_at, ne_eqb (head_at cells p % 4) 2 h) refl
 
 -- an accepted address, and a legal archive on the tape
 pub record HistoryAsked (text : Bytes) (table : List ℕ) (n : ℕ) (s : Bytes) (steps : Parsed) (values : List (List ℕ)) (src cells : List ℕ) (count : ℕ) : Type 0 where
@@ -73,7 +75,6 @@ abbrev pub OfHistory : Bytes → List ℕ → ℕ → Bytes → List ℕ → Lis
 OfHistory text table n s src cells count P =
     (K : KeyList) (f : Forest) (ls : List Label) → Table text table n K → Tape src cells 0 count f → address K s ≡ ok ls → P (history_forest K ls f)
 
--- the history w stands in the text there, or it is empty
-pub record AroundIs (src : Bytes) (w : Bytes) (r : Around) : Type 0 where
-  pub missing : r.found ≡ false → w ≡ []
-  pub there : r.found ≡ true → (r.start ≤ r.end) × (r.end ≤ length src) × (r.end ≤ r.start + 32767) × (w ≡ slice r.start r.end src)
+-- the history w is this text, or it is empty
+abbrev pub AroundIs : Bytes → Option (Bor Bytes) → Type 0
+AroundIs w r = MatchOption r (w ≡ []) (λ x. (x.now ≡ w) × (length x.now ≤ 32767))

@@ -1,15 +1,14 @@
 -- The walk of a history down the steps of an address: its start in the outer `T`, and the laws of a walk on its way.
-use Rattle.std.specs.Prelude.{ℕ, ◌+◌, ◌*◌, ◌%◌, ◌<◌, ◌≤◌, ◌≡◌, refl, eqb, leb, length, take, drop, get_or}
+use Rattle.std.specs.Prelude.{None, ℕ, ◌+◌, ◌*◌, ◌%◌, ◌<◌, ◌≤◌, ◌≡◌, refl, eqb, leb, length, take, drop, get_or}
 use Rattle.std.proofs.Common.{add-one, arith, sym, ◌∙◌, drop_of_length-le, drop-cons}
 use Rattle.std.proofs.Math.Path.{ap, subst}
 use Rattle.std.proofs.Math.Bool.{true, false}
 use mathlib.Core.List.{List, [], ◌∷◌, map}
-use Rattle.std.proofs.Math.Seq.{slice}
 use Rattle.xml.specs.Bytes.{Bytes, same}
 use Rattle.xml.specs.Forest.{Forest, end, stamp, nodes}
 use Rattle.xml.specs.Read.{is_end}
 use Rattle.xml.specs.Truth.{bool_by, by-test, and_left, both_true}
-use Rattle.xml.specs.Tape.{head_at, next_at, start_in, end_in, Node, Tape, at-end, at-text, at-elem, at-stamp}
+use Rattle.xml.specs.Tape.{head_at, next_at, end_in, Node, Tape, at-end, at-text, at-elem, at-stamp}
 use Rattle.xml.specs.TapeLaws.{bytes_at, tape-one}
 use Rattle.model.specs.Masks.{clash}
 use Rattle.keys.specs.ResultLaws.{ok-inj}
@@ -24,8 +23,8 @@ use Rattle.keys.specs.declared.address.Parsed.{Parsed}
 use Rattle.timestamp.specs.Times.{Times, always, write_times, last_number}
 use Rattle.versions.specs.Walk.{siblings_legal, all_small, forest_legal, or_empty, history_in, history_forest}
 use Rattle.versions.specs.HistorySteps.{inside, or-none, sole-end}
-use Rattle.versions.specs.HistoryTape.{near_at, StepAt}
-use Rattle.walks.specs.HistoryParts.{StepSought, StepFound, entered, HistoryAsked, OfHistory, AroundIs}
+use Rattle.versions.specs.HistoryTape.{element_at, near_at, Reached, StepAt}
+use Rattle.walks.specs.HistoryParts.{StepSought, OfStep, HistoryAsked, OfHistory, AroundIs, short-part}
 
 -- ---- the outer `T`
 pub record Top (src cells : List ℕ) (K : KeyList) (count : ℕ) (f : Forest) : Type 0 where
@@ -76,22 +75,12 @@ top-history o (l ∷ ls) b = o.same l ls
 known-above : (K : KeyList) (p : Path) (j : Label) (js : List Label) → steps_known K p (j ∷ js) ≡ true → above K p ≡ true
 known-above K p j js h = by-test (above K p) (λ e. e) (λ e. absurd (clash (known K p j js h).0.place (listed_above K p (name_in j) e)))
 
--- ---- the text of the nearest `T` in the sibling r
-module _ (src cells : List ℕ) (r a e : ℕ) where
-  near-entered : near_at src cells r (slice a e src) ≡ slice (entered cells r a e).start (entered cells r a e).end src
-  unfolding near_at
-  near-entered =
-      bool_by (λ t. elim t as (λ _. Bytes) [ true ↦ bytes_at src cells r | false ↦ slice a e src ]
-      ≡ slice (elim t as (λ _. ℕ) [ true ↦ start_in (head_at cells r) | false ↦ a ]) (elim t as (λ _. ℕ) [ true ↦ end_in (head_at cells r) | false ↦ e ]) src) (eqb (head_at cells r % 4) 2)
-      (λ _. refl) (λ _. refl)
-
-  part-entered : (a ≤ e) × (e ≤ length src) × (e ≤ a + 32767) → end_in (head_at cells r) ≤ length src
-      → ((entered cells r a e).start ≤ (entered cells r a e).end) × ((entered cells r a e).end ≤ length src) × ((entered cells r a e).end ≤ (entered cells r a e).start + 32767)
-  part-entered h w =
-      bool_by (λ t. (elim t as (λ _. ℕ) [ true ↦ start_in (head_at cells r) | false ↦ a ] ≤ elim t as (λ _. ℕ) [ true ↦ end_in (head_at cells r) | false ↦ e ])
-      × (elim t as (λ _. ℕ) [ true ↦ end_in (head_at cells r) | false ↦ e ] ≤ length src)
-      × (elim t as (λ _. ℕ) [ true ↦ end_in (head_at cells r) | false ↦ e ] ≤ elim t as (λ _. ℕ) [ true ↦ start_in (head_at cells r) | false ↦ a ] + 32767)) (eqb (head_at cells r % 4) 2)
-      (λ _. (omega arith, w, omega arith)) (λ _. h)
+-- ---- the text of the nearest `T` in the sibling r is short
+part-near : (src cells : List ℕ) (r : ℕ) (around : Bytes) → length around ≤ 32767 → end_in (head_at cells r) ≤ length src → length (near_at src cells r around) ≤ 32767
+unfolding near_at
+part-near src cells r around h w =
+    bool_by (λ t. length (elim t as (λ _. Bytes) [ true ↦ bytes_at src cells r | false ↦ around ]) ≤ 32767) (eqb (head_at cells r % 4) 2)
+    (λ _. short-part src (head_at cells r) w) (λ _. h)
 
 -- ---- the labels of the address, and the path of the first i
 module _ {text : Bytes} {table : List ℕ} {n : ℕ} {s : Bytes} {steps : Parsed} {values : List (List ℕ)} {src cells : List ℕ} {count : ℕ} (h : HistoryAsked text table n s steps values src cells count) where
@@ -124,8 +113,8 @@ module _ {text : Bytes} {table : List ℕ} {n : ℕ} {s : Bytes} {steps : Parsed
   next-path : (i : ℕ) → i < steps.count → path_at (i + 1) ≡ path_at i ▸ name_in (get_or labels_in i [])
   next-path i b = rw (add-one i) (path-to labels_in i (omega (arith, steps_in.counted)))
 
--- ---- the walk before step i: it stands in the nodes lo to hi, and the nearest `T` has the text from a to e
-pub record Way (text : Bytes) (table : List ℕ) (n : ℕ) (s : Bytes) (steps : Parsed) (values : List (List ℕ)) (src cells : List ℕ) (count i a e lo hi : ℕ) : Type 0 where
+-- ---- the walk before step i: it stands in the nodes lo to hi, and the nearest `T` has the text `around`
+pub record Way (text : Bytes) (table : List ℕ) (n : ℕ) (s : Bytes) (steps : Parsed) (values : List (List ℕ)) (src cells : List ℕ) (count i : ℕ) (around : Bytes) (lo hi : ℕ) : Type 0 where
   pub asked : HistoryAsked text table n s steps values src cells count
   pub versions : ℕ
   pub times : Times
@@ -133,12 +122,12 @@ pub record Way (text : Bytes) (table : List ℕ) (n : ℕ) (s : Bytes) (steps : 
   pub tape : Tape src cells lo hi kids
   pub steps-left : steps_known asked.key_list (path_at asked i) (drop i (labels_in asked)) ≡ true
   pub legal : i < steps.count → siblings_legal asked.key_list versions (path_at asked i) times kids ≡ true
-  pub part : (a ≤ e) × (e ≤ length src) × (e ≤ a + 32767)
-  pub same : history_of asked ≡ or_empty (inside asked.key_list (path_at asked i) (slice a e src) (drop i (labels_in asked)) kids)
+  pub short : length around ≤ 32767
+  pub same : history_of asked ≡ or_empty (inside asked.key_list (path_at asked i) around (drop i (labels_in asked)) kids)
 
 module _ {text : Bytes} {table : List ℕ} {n : ℕ} {s : Bytes} {steps : Parsed} {values : List (List ℕ)} {src cells : List ℕ} {count : ℕ} where
   pub way-start : HistoryAsked text table n s steps values src cells count
-      → Way text table n s steps values src cells count 0 (start_in (head_at cells 0)) (end_in (head_at cells 0)) 1 count
+      → Way text table n s steps values src cells count 0 (bytes_at src cells 0) 1 count
   way-start h =
       let o = top h.tape h.legal in
       record {
@@ -149,11 +138,11 @@ module _ {text : Bytes} {table : List ℕ} {n : ℕ} {s : Bytes} {steps : Parsed
         tape = o.tape;
         steps-left = (address-accepted h.key_list s (labels_in h) (steps_in h).accepted).steps;
         legal = λ _. o.legal;
-        part = (omega arith, o.within, omega arith);
+        short = short-part src (head_at cells 0) o.within;
         same = top-history o (labels_in h) (omega (arith, (steps_in h).counted, h.some-step));
       }
 
-  module _ {i a e lo hi : ℕ} (w : Way text table n s steps values src cells count i a e lo hi) (b : i < steps.count) where
+  module _ {i lo hi : ℕ} {around : Bytes} (w : Way text table n s steps values src cells count i around lo hi) (b : i < steps.count) where
     abbrev asks : HistoryAsked text table n s steps values src cells count
     asks = w.asked
 
@@ -174,31 +163,39 @@ module _ {text : Bytes} {table : List ℕ} {n : ℕ} {s : Bytes} {steps : Parsed
         }
 
     -- the history so far, by the next step
-    next-same : history_of asks ≡ or_empty (history_in asks.key_list (path_at asks i) (slice a e src) (get_or (labels_in asks) i []) (drop (i + 1) (labels_in asks)) w.kids)
-    next-same = w.same ∙ ap (λ z. or_empty (inside asks.key_list (path_at asks i) (slice a e src) z w.kids)) (next-label asks i b)
+    next-same : history_of asks ≡ or_empty (history_in asks.key_list (path_at asks i) around (get_or (labels_in asks) i []) (drop (i + 1) (labels_in asks)) w.kids)
+    next-same = w.same ∙ ap (λ z. or_empty (inside asks.key_list (path_at asks i) around z w.kids)) (next-label asks i b)
 
-    module _ {r : ℕ} (x : StepFound text table n s (get_or steps.names i 0) (get_or steps.places i 0) (get_or values i []) src cells lo hi r) where
-      step-at : StepAt src cells asks.key_list w.versions (path_at asks i) (get_or (labels_in asks) i []) hi w.kids r
-      unfolding way-sought
-      step-at = let g = way-sought in x g.key_list g.versions g.path g.step g.times g.siblings g.tabled g.step_is g.tape g.legal
+    -- what is said of the step sought holds of this one
+    abbrev Of : (KeyList → ℕ → Path → Label → Times → Forest → Type 0) → Type 0
+    Of P = OfStep text table n s (get_or steps.names i 0) (get_or steps.places i 0) (get_or values i []) src cells lo hi P
 
-      -- no sibling has the label: no history
-      pub way-missing : r ≡ hi → OfHistory text table n s src cells count (λ z. AroundIs src z (record { found = false; start = a; end = e }))
-      way-missing z =
-          history-one asks (λ y. AroundIs src y (record { found = false; start = a; end = e })) (record {
-            missing = λ _. next-same ∙ ap or_empty (step-at.missing z (slice a e src) (drop (i + 1) (labels_in asks)));
-            there = λ d. absurd (clash d refl);
-          })
+    of-sought : (P : KeyList → ℕ → Path → Label → Times → Forest → Type 0) → Of P → P asks.key_list w.versions (path_at asks i) (get_or (labels_in asks) i []) w.times w.kids
+    unfolding way-sought
+    of-sought P x = let g = way-sought in x g.key_list g.versions g.path g.step g.times g.siblings g.tabled g.step_is g.tape g.legal
 
-      pub way-held : (r ≡ hi → ⊥) → 2 * r + 1 < length cells
-      way-held z = (step-at.there z).held
+    -- no sibling has the label: no history
+    pub way-missing : Of (λ K m q l t f. StepAt src cells K m q l hi f hi) → OfHistory text table n s src cells count (λ z. AroundIs z None)
+    way-missing x =
+        let y = of-sought (λ K m q l t f. StepAt src cells K m q l hi f hi) x in
+        history-one asks (λ z. AroundIs z None) (next-same ∙ ap or_empty (y.missing refl around (drop (i + 1) (labels_in asks))))
+
+    module _ {r : ℕ} (x : Of (λ K m q l t f. Reached src cells K m q l f r)) where
+      step-at : Reached src cells asks.key_list w.versions (path_at asks i) (get_or (labels_in asks) i []) w.kids r
+      step-at = of-sought (λ K m q l t f. Reached src cells K m q l f r) x
+
+      pub way-held : 2 * r + 1 < length cells
+      way-held = step-at.held
+
+      pub way-within : end_in (head_at cells r) ≤ length src
+      way-within = step-at.within
 
       -- into the element with the label
-      pub way_on : (r ≡ hi → ⊥) → Way text table n s steps values src cells count (i + 1) (entered cells r a e).start (entered cells r a e).end (entered cells r a e).lo (entered cells r a e).hi
-      way_on z =
+      pub way_on : Way text table n s steps values src cells count (i + 1) (near_at src cells r around) (element_at cells r + 1) (next_at cells r)
+      way_on =
           let K = asks.key_list in
           let ls = labels_in asks in
-          let y = step-at.there z in
+          let y = step-at in
           let q = next-path asks i b in
           let k : steps_known K (path_at asks i ▸ name_in (get_or ls i [])) (drop (i + 1) ls) ≡ true = (known K (path_at asks i) (get_or ls i []) (drop (i + 1) ls) (rw (next-label asks i b) at w.steps-left)).1 in
           record {
@@ -209,18 +206,14 @@ module _ {text : Bytes} {table : List ℕ} {n : ℕ} {s : Bytes} {steps : Parsed
             tape = y.tape;
             steps-left = rw q k;
             legal = λ c. rw q (y.below (known-above K (path_at asks i ▸ name_in (get_or ls i [])) (get_or ls (i + 1) []) (drop (i + 1 + 1) ls) (rw (next-label asks (i + 1) c) at k)));
-            part = part-entered src cells r a e w.part y.within;
-            same = next-same ∙ ap or_empty (y.on (slice a e src) (drop (i + 1) ls) ∙ ap (λ d. inside K d (near_at src cells r (slice a e src)) (drop (i + 1) ls) y.kids) (sym q)
-                ∙ ap (λ d. inside K (path_at asks (i + 1)) d (drop (i + 1) ls) y.kids) (near-entered src cells r a e));
+            short = part-near src cells r around w.short y.within;
+            same = next-same ∙ ap or_empty (y.on around (drop (i + 1) ls) ∙ ap (λ d. inside K d (near_at src cells r around) (drop (i + 1) ls) y.kids) (sym q));
           }
 
   -- all steps are taken: the nearest `T` is found
-  pub way-done : {i a e lo hi : ℕ} → Way text table n s steps values src cells count i a e lo hi → steps.count ≤ i
-      → OfHistory text table n s src cells count (λ z. AroundIs src z (record { found = true; start = a; end = e }))
-  way-done {i} {a} {e} w b =
+  pub way-done : {i lo hi : ℕ} {around : Bytes} → Way text table n s steps values src cells count i around lo hi → steps.count ≤ i
+      → OfHistory text table n s src cells count (λ z. (around ≡ z) × (length around ≤ 32767))
+  way-done {i} {lo} {hi} {around} w b =
       let h = w.asked in
       let d : drop i (labels_in h) ≡ [] = drop_of_length-le (labels_in h) {i = i} (omega (arith, (steps_in h).counted)) in
-      history-one h (λ y. AroundIs src y (record { found = true; start = a; end = e })) (record {
-        missing = λ x. absurd (clash refl x);
-        there = λ _. (w.part.0, w.part.1, w.part.2, w.same ∙ ap (λ z. or_empty (inside h.key_list (path_at h i) (slice a e src) z w.kids)) d);
-      })
+      history-one h (λ z. (around ≡ z) × (length around ≤ 32767)) (sym (w.same ∙ ap (λ z. or_empty (inside h.key_list (path_at h i) around z w.kids)) d), w.short)

@@ -17,7 +17,7 @@ ghost use Rattle.walks.specs.Trimmed.{cut_text, Trimmed};
 use crate::timed::put_changed;
 use timestamp::change::{Change, cut_at};
 use timestamp::write::put_tail;
-use xml::tape::{is_run, view_at};
+use xml::tape::{Document, is_run};
 use xml::writer::{least, put_close, put_open, put_text, put_word};
 
 // The byte k of a text whose first `to` bytes begin at a, with the others in `tail`.
@@ -39,12 +39,10 @@ fn same_cut(src: &[u8], a: usize, x: Change, b: usize, y: Change, i: usize) -> b
     if size != y.to + put_tail(y.tail, i, &mut ys, 0) {
         return false;
     }
-    let mut k = 0;
-    while k < size {
+    for k in 0..size {
         if byte_in(src, a, x.to, &xs, k) != byte_in(src, b, y.to, &ys, k) {
             return false;
         }
-        k += 1;
     }
     true
 }
@@ -52,8 +50,7 @@ fn same_cut(src: &[u8], a: usize, x: Change, b: usize, y: Change, i: usize) -> b
 // Writes the nodes lo to hi, which a node of the versions `around` holds: one run of text is written with no walk.
 #[cycle(back_inside_back_node_write_back)]
 fn back_inside(
-    src: &[u8],
-    tape: &[u32],
+    doc: &Document,
     lo: usize,
     hi: usize,
     i: usize,
@@ -62,61 +59,52 @@ fn back_inside(
     out: &mut [u8],
     at: usize,
 ) -> usize
-    requires { Timely i src.now tape.now lo hi × (1 ≤ i) × Trimmed i src.now a around.to around.tail × (at + 163840 * (hi - lo) < 2 ^ 60) }
-    ensures { Renders (back_text i (times_in i (cut_text src.now a around.to around.tail i))) src.now tape.now lo hi
+    requires { Timely i doc.now.src.now doc.now.tape.now lo hi × (1 ≤ i) × Trimmed i doc.now.src.now a around.to around.tail × (at + 163840 * (hi - lo) < 2 ^ 60) }
+    ensures { Renders (back_text i (times_in i (cut_text doc.now.src.now a around.to around.tail i))) doc.now.src.now doc.now.tape.now lo hi
         out.old at result out.new }
 {
-    if is_run(tape, lo, hi) {
-        let v = view_at(tape, lo);
-        return put_text(src, v.start, v.end, out, at);
+    if is_run(doc.tape, lo, hi) {
+        let v = doc.view(lo);
+        return put_text(&doc.src[v.start..v.end], out, at);
     }
-    write_back(src, tape, lo, hi, i, a, around, out, at)
+    write_back(doc, lo, hi, i, a, around, out, at)
 }
 
 // Writes node p, which stands in an element of the versions `around`, from the start of `out`.
 #[cycle(back_inside_back_node_write_back)]
-fn back_node(
-    src: &[u8],
-    tape: &[u32],
-    p: usize,
-    i: usize,
-    a: usize,
-    around: Change,
-    out: &mut [u8],
-) -> usize
-    requires { (p < next_at tape.now p) × Timely i src.now tape.now p (next_at tape.now p) × (1 ≤ i) × Trimmed i src.now a around.to around.tail × (163840 * (next_at tape.now p - p) < 2 ^ 60) }
-    ensures { Renders (back_text i (times_in i (cut_text src.now a around.to around.tail i))) src.now tape.now p (next_at tape.now p)
+fn back_node(doc: &Document, p: usize, i: usize, a: usize, around: Change, out: &mut [u8]) -> usize
+    requires { (p < next_at doc.now.tape.now p) × Timely i doc.now.src.now doc.now.tape.now p (next_at doc.now.tape.now p) × (1 ≤ i) × Trimmed i doc.now.src.now a around.to around.tail × (163840 * (next_at doc.now.tape.now p - p) < 2 ^ 60) }
+    ensures { Renders (back_text i (times_in i (cut_text doc.now.src.now a around.to around.tail i))) doc.now.src.now doc.now.tape.now p (next_at doc.now.tape.now p)
         out.old 0 result out.new }
 {
-    let v = view_at(tape, p);
+    let v = doc.view(p);
     let start = v.start;
     let end = v.end;
     if v.kind == 0 {
-        return put_text(src, start, end, out, 0);
+        return put_text(&doc.src[start..end], out, 0);
     }
     if v.kind == 1 {
-        let inside = put_open(true, src, start, end, out, 0);
-        let close = back_inside(src, tape, p + 1, v.next, i, a, around, out, inside);
-        return put_close(true, src, start, end, out, close);
+        let inside = put_open(true, &doc.src[start..end], out, 0);
+        let close = back_inside(doc, p + 1, v.next, i, a, around, out, inside);
+        return put_close(true, &doc.src[start..end], out, close);
     }
-    let cut = cut_at(&src[start..end], i);
-    if cut.to + cut.tail == 0 {
+    let cut = cut_at(&doc.src[start..end], i);
+    if cut.is_empty() {
         return 0;
     }
-    if same_cut(src, a, around, start, cut, i) {
-        return back_inside(src, tape, p + 1, v.next, i, start, cut, out, 0);
+    if same_cut(doc.src, a, around, start, cut, i) {
+        return back_inside(doc, p + 1, v.next, i, start, cut, out, 0);
     }
-    let inside = put_changed(cut, src, start, i, out, 0);
-    let close = back_inside(src, tape, p + 1, v.next, i, start, cut, out, inside);
-    put_close(false, src, start, end, out, close)
+    let inside = put_changed(cut, doc.src, start, i, out, 0);
+    let close = back_inside(doc, p + 1, v.next, i, start, cut, out, inside);
+    put_close(false, &doc.src[start..end], out, close)
 }
 
 // Writes the nodes lo to hi, which stand in an element of the versions `around`. The writer of each node is lent the output's part from the
-// current place.
+// current place. The siblings are linked by `next`, so no range counts them.
 #[cycle(back_inside_back_node_write_back)]
 pub fn write_back(
-    src: &[u8],
-    tape: &[u32],
+    doc: &Document,
     lo: usize,
     hi: usize,
     i: usize,
@@ -125,32 +113,31 @@ pub fn write_back(
     out: &mut [u8],
     at: usize,
 ) -> usize
-    requires { Timely i src.now tape.now lo hi × (1 ≤ i) × Trimmed i src.now a around.to around.tail × (at + 163840 * (hi - lo) < 2 ^ 60) }
-    ensures { Renders (back_text i (times_in i (cut_text src.now a around.to around.tail i))) src.now tape.now lo hi
+    requires { Timely i doc.now.src.now doc.now.tape.now lo hi × (1 ≤ i) × Trimmed i doc.now.src.now a around.to around.tail × (at + 163840 * (hi - lo) < 2 ^ 60) }
+    ensures { Renders (back_text i (times_in i (cut_text doc.now.src.now a around.to around.tail i))) doc.now.src.now doc.now.tape.now lo hi
         out.old at result out.new }
 {
     let mut p = lo;
     let mut to = at;
     while p < hi {
         let from = least(to, out.len());
-        to += back_node(src, tape, p, i, a, around, &mut out[from..]);
-        let v = view_at(tape, p);
-        p = v.next;
+        to += back_node(doc, p, i, a, around, &mut out[from..]);
+        p = doc.view(p).next;
     }
     to
 }
 
 // Writes the whole archive, which the nodes 0 to hi are, after a step back to version i.
-pub fn back(src: &[u8], tape: &[u32], hi: usize, i: usize, out: &mut [u8], at: usize) -> usize
-    requires { (0 < hi) × (next_at tape.now 0 ≡ hi) × (head_at tape.now 0 % 4 ≡ 2) × Timely i src.now tape.now 0 hi × (1 ≤ i) × (times_in i (bytes_at src.now tape.now 0) ≡ always i) × (at + 163840 * hi < 2 ^ 60) }
-    ensures { (f : Forest) → Tape src.now tape.now 0 hi f
+pub fn back(doc: &Document, hi: usize, i: usize, out: &mut [u8], at: usize) -> usize
+    requires { (0 < hi) × (next_at doc.now.tape.now 0 ≡ hi) × (head_at doc.now.tape.now 0 % 4 ≡ 2) × Timely i doc.now.src.now doc.now.tape.now 0 hi × (1 ≤ i) × (times_in i (bytes_at doc.now.src.now doc.now.tape.now 0) ≡ always i) × (at + 163840 * hi < 2 ^ 60) }
+    ensures { (f : Forest) → Tape doc.now.src.now doc.now.tape.now 0 hi f
         → Wrote out.old at (written (back_forest i f)) result out.new }
 {
-    let v = view_at(tape, 0);
+    let v = doc.view(0);
     let start = v.start;
     let end = v.end;
-    let cut = cut_at(&src[start..end], i);
-    let inside = put_changed(cut, src, start, i, out, at);
-    let close = write_back(src, tape, 1, hi, i, start, cut, out, inside);
+    let cut = cut_at(&doc.src[start..end], i);
+    let inside = put_changed(cut, doc.src, start, i, out, at);
+    let close = write_back(doc, 1, hi, i, start, cut, out, inside);
     put_word(b"</T>", out, close)
 }

@@ -56,5 +56,5 @@ class-kept b h =
 
 -- and so of what `class` answers, by the postcondition that Rattle reads off the contract which it is proved to meet
 pub class-answers : (κs : Lfts 0) (a : Dens κs kinds.ps) (r : (res_t kinds.r κs).Denot) (x : AtExit (ended_of 0 kinds.ps kinds.r) κs) →
-    reads.Post κs a r x → a.0 < 256 → r ≡ get_or former_table a.0 0
-class-answers κs a r x p h = p ∙ class-kept a.0 h
+    reads.Post κs a r x → a.0 < 256 → class_number r ≡ get_or former_table a.0 0
+class-answers κs a r x p h = ap class_number p ∙ class-kept a.0 h

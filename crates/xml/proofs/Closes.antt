@@ -12,8 +12,6 @@ use lib.Seq.{slice, drop-cons, drop-drop, get_or-drop, get_or-set_other}
 use Rattle.xml.specs.Bytes.{Bytes, is_white, bytes_compute}
 use Rattle.xml.specs.Forest.{Forest, end, elem, text, stamp, join}
 use Rattle.xml.specs.Read.{tag_node, Stack, outer, inside, move, wrong, broken, is_end, step, start_tag, end_tag, finish, read}
-use Rattle.xml.specs.declared.Run.{Run}
-use Rattle.xml.specs.declared.Run.TheVariants.{Upto, Stop}
 use Rattle.xml.specs.Tape.{head_at, next_at, Tape, at-end, size}
 use Rattle.xml.specs.TapeLaws.{tape-none, tape-size, bytes_at}
 use Rattle.xml.specs.Views.{view_at}
@@ -24,6 +22,7 @@ use Rattle.xml.specs.Tokens.{EndRead, ended_by}
 use Rattle.xml.specs.State.{Reading, Here, Ending, Opening, Untouched, Went, Filled}
 use Rattle.xml.proofs.Steps.{in-text, stops, went}
 use Rattle.xml.proofs.Turns.{Around, around, outermost}
+use Rattle.std.specs.Prelude.{Result, Ok, Err}
 
 -- ---- an end tag
 module _ {a : Bool} {src : Bytes} {cells : List ℕ} {at count top : ℕ} (w : Ending a src cells at count top) where
@@ -48,26 +47,26 @@ module _ {a : Bool} {src : Bytes} {cells : List ℕ} {at count top : ℕ} (w : E
       ∙ ap (end_tag its.tag its.before its.stack r.forest) e
 
   -- what the scanner answers
-  abbrev pub Read : Run → Type 0
+  abbrev pub Read : Result ℕ ℕ → Type 0
   Read o = EndRead (head_at cells (top - 1) % 4) (bytes_at src cells (top - 1)) (drop (at + 2) src) o
 
-  ended : (o : Run) → Read o → step a r.stack r.forest (drop at src) ≡ ended_by its.tag its.before its.stack r.forest o
+  ended : (o : Result ℕ ℕ) → Read o → step a r.stack r.forest (drop at src) ≡ ended_by its.tag its.before its.stack r.forest o
   ended o e = closes ∙ e its.tag (sym its.node.kind-is) (sym its.node.bytes-are) its.before its.stack r.forest
 
-  pub stop-in : (m : ℕ) → Read (Stop m) → at + 2 + m ≤ length src
+  pub stop-in : (m : ℕ) → Read (Err m) → at + 2 + m ≤ length src
   stop-in m e =
-      let g : 2 + m ≤ suc (length src - (at + 1)) = in-text r w.here (wrong (2 + m)) (ended (Stop m) e) in
+      let g : 2 + m ≤ suc (length src - (at + 1)) = in-text r w.here (wrong (2 + m)) (ended (Err m) e) in
       omega (arith, w.here)
 
-  pub close-in : (m : ℕ) → Read (Upto m) → at + 3 + m ≤ length src
+  pub close-in : (m : ℕ) → Read (Ok m) → at + 3 + m ≤ length src
   close-in m e =
-      let g : 2 + m ≤ length src - (at + 1) = in-text r w.here _ (ended (Upto m) e) in
+      let g : 2 + m ≤ length src - (at + 1) = in-text r w.here _ (ended (Ok m) e) in
       omega (arith, w.here)
 
-  pub close-bad : (m : ℕ) → Read (Stop m) → read a src ≡ broken (at + 2 + m)
-  close-bad m e = stops r w.here (2 + m) (at + 2 + m) (ended (Stop m) e) (omega arith)
+  pub close-bad : (m : ℕ) → Read (Err m) → read a src ≡ broken (at + 2 + m)
+  close-bad m e = stops r w.here (2 + m) (at + 2 + m) (ended (Err m) e) (omega arith)
 
-  pub close-good : (m : ℕ) (new : List ℕ) → Read (Upto m) → new ≡ set cells (2 * (top - 1) + 1) count →
+  pub close-good : (m : ℕ) (new : List ℕ) → Read (Ok m) → new ≡ set cells (2 * (top - 1) + 1) count →
       Went a src cells at count new (at + 3 + m) count (next_at cells (top - 1))
   close-good m new e n =
       let held : Held src cells (inside its.tag its.before its.stack) r.forest top count =
@@ -77,7 +76,7 @@ module _ {a : Bool} {src : Bytes} {cells : List ℕ} {at count top : ℕ} (w : E
       let room = r.room in
       let t = held-le r.held in
       let inner = w.inner in
-      went r w.here its.stack (join its.before (tag_node its.tag r.forest)) (2 + m) (at + 3 + m) (ended (Upto m) e) (omega arith)
+      went r w.here its.stack (join its.before (tag_node its.tag r.forest)) (2 + m) (at + 3 + m) (ended (Ok m) e) (omega arith)
       (held-close new held room n) (omega arith) (omega arith) (omega arith)
       (λ i h. ap (λ (c : List ℕ). get_or c i 0) n ∙ get_or-set_other cells (2 * (top - 1) + 1) i count 0 (λ d. omega arith))
       (omega (arith, r.few)) (λ z h d. omega (arith, r.few))
@@ -87,11 +86,11 @@ module _ {a : Bool} {src : Bytes} {cells : List ℕ} {at count top : ℕ} (w : E
     pub seen-in : (at + 2 ≤ length src) × (v.start ≤ v.end) × (v.end ≤ length src)
     seen-in = subst (λ (x : View). (at + 2 ≤ length src) × (x.start ≤ x.end) × (x.end ≤ length src)) (sym seen) (two_in, omega arith, its.node.within)
 
-    pub told : (q o : Run) → q ≡ o → EndRead v.kind (slice v.start v.end src) (drop (at + 2) src) q → Read o
+    pub told : (q o : Result ℕ ℕ) → q ≡ o → EndRead v.kind (slice v.start v.end src) (drop (at + 2) src) q → Read o
     told q o e h =
         subst Read e (subst (λ (x : View). EndRead x.kind (slice x.start x.end src) (drop (at + 2) src) q) seen h)
 
-    pub close-seen : (m : ℕ) (new : List ℕ) → Read (Upto m) → new ≡ set cells (2 * (top - 1) + 1) count → Went a src cells at count new (at + 3 + m) count v.next
+    pub close-seen : (m : ℕ) (new : List ℕ) → Read (Ok m) → new ≡ set cells (2 * (top - 1) + 1) count → Went a src cells at count new (at + 3 + m) count v.next
     close-seen m new e n = subst (λ (x : View). Went a src cells at count new (at + 3 + m) count x.next) (sym seen) (close-good m new e n)
 
 -- ---- a start tag in an open node

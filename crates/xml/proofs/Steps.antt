@@ -11,7 +11,6 @@ use lib.Seq.{drop-cons}
 use Rattle.xml.specs.Bytes.{Bytes}
 use Rattle.xml.specs.Forest.{Forest}
 use Rattle.xml.specs.Read.{Stack, Move, move, wrong, broken, step, go, read}
-use Rattle.xml.specs.declared.Step.{Step}
 use Rattle.xml.specs.Truth.{by-test}
 use Rattle.xml.specs.TapeNew.{head_of, Added, new-long, new-other}
 use Rattle.xml.specs.StepLaws.{go-move, go-wrong}
@@ -19,6 +18,9 @@ use Rattle.xml.specs.StepIn.{In, step_in_lem}
 use Rattle.xml.specs.Held.{stack_size, Held, held-le, held-size}
 use Rattle.xml.specs.GoSize.{go-size}
 use Rattle.xml.specs.State.{Reading, Spare, Untouched, Overfull, Noted, Went, Stepped}
+use Rattle.std.specs.Prelude.{Result}
+use Rattle.xml.specs.declared.ReadError.{ReadError}
+use Rattle.xml.specs.declared.reader.Progress.{Progress}
 
 module _ {a : Bool} {src : Bytes} {cells : List ℕ} {at count top : ℕ} (r : Reading a src cells at count top) (here : at < length src) where
   pub top-le : top ≤ count
@@ -85,7 +87,7 @@ module _ {a : Bool} {src : Bytes} {cells : List ℕ} {at count top : ℕ} (r : R
       (more : stack_size st f ≡ 1 + stack_size r.stack r.forest) (inn : start + len ≤ length src) (small : len ≤ 32767) (kinds : kind < 4)
       (tight : 2 * count + 2 ≤ p) (spare : Spare src p (count + 1) t)
       (held : (new : List ℕ) → Added src cells count start len kind next new → Held src new st f t (count + 1)) where
-    pub noted : {new : List ℕ} {o : Step} {h : ℕ} → h ≡ head_of start len kind → Noted cells count h next p t new o → Stepped a src cells at count new o
+    pub noted : {new : List ℕ} {o : Result Progress ReadError} {h : ℕ} → h ≡ head_of start len kind → Noted cells count h next p t new o → Stepped a src cells at count new o
     noted {new} {o} is n =
         by-test (leb (2 * count + 2) (length cells)) (λ x. fits (leb-true (2 * count + 2) (length cells) x)) (λ x. over (leb-false (2 * count + 2) (length cells) x))
       where

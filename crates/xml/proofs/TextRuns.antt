@@ -12,9 +12,7 @@ use Rattle.xml.specs.Read.{text_byte, scan}
 use Rattle.xml.specs.Stretch.{Passed, brackets_after, brackets-off, brackets-stay, scan-passed}
 use Rattle.xml.specs.TextLaws.{Reach, here-reach, scan-end, scan-over, scan-off, scan-on}
 use Rattle.xml.specs.Truth.{by-test}
-use Rattle.xml.specs.declared.Next.{Next}
-use Rattle.xml.specs.declared.Next.TheVariants.{Over, On, Off}
-use Rattle.xml.specs.declared.Run.TheVariants.{Upto, Stop}
+use Rattle.std.specs.Prelude.{Result, Ok, Err, Option, Some, None}
 
 -- the run from `at` is the run from j, after q times `]`
 pub record Reached (src : Bytes) (at j q : ℕ) : Type 0 where
@@ -39,26 +37,26 @@ run-start {src} {at} {j} p =
     }
 
 module _ {src : Bytes} {at j q : ℕ} (w : Reached src at j q) where
-  pub run_end : length src ≤ j → scan 0 0 0 (drop at src) ≡ Upto (j - at)
+  pub run_end : length src ≤ j → scan 0 0 0 (drop at src) ≡ Ok (j - at)
   run_end h = w.same ∙ scan-end src q (j - at) j h
 
   module _ (h : j < length src) where
-    pub run-over : text_byte q (get_or src j 0) (drop (j + 1) src) ≡ Over → scan 0 0 0 (drop at src) ≡ Upto (j - at)
+    pub run-over : text_byte q (get_or src j 0) (drop (j + 1) src) ≡ Ok None → scan 0 0 0 (drop at src) ≡ Ok (j - at)
     run-over e = w.same ∙ scan-over src q (j - at) j h e
 
-    pub run-off : (k : ℕ) → text_byte q (get_or src j 0) (drop (j + 1) src) ≡ Off k → scan 0 0 0 (drop at src) ≡ Stop (j - at + k)
+    pub run-off : (k : ℕ) → text_byte q (get_or src j 0) (drop (j + 1) src) ≡ Err k → scan 0 0 0 (drop at src) ≡ Err (j - at + k)
     run-off k e = w.same ∙ scan-off src q (j - at) j k h e
 
-    reach : (x : Next) → text_byte q (get_or src j 0) (drop (j + 1) src) ≡ x → Reach q (length src - (j + 1)) x
-    reach x e = subst (λ (y : Next). Reach q (length src - (j + 1)) y) e (here-reach src q (j - at) j)
+    reach : (x : Result (Option (ℕ × ℕ)) ℕ) → text_byte q (get_or src j 0) (drop (j + 1) src) ≡ x → Reach q (length src - (j + 1)) x
+    reach x e = subst (λ (y : Result (Option (ℕ × ℕ)) ℕ). Reach q (length src - (j + 1)) y) e (here-reach src q (j - at) j)
 
-    pub off-fits : (k : ℕ) → text_byte q (get_or src j 0) (drop (j + 1) src) ≡ Off k → j + k ≤ length src
-    off-fits k e = omega (arith, reach (Off k) e)
+    pub off-fits : (k : ℕ) → text_byte q (get_or src j 0) (drop (j + 1) src) ≡ Err k → j + k ≤ length src
+    off-fits k e = omega (arith, reach (Err k) e)
 
-    pub on_fits : (k r : ℕ) → text_byte q (get_or src j 0) (drop (j + 1) src) ≡ On k r → j + 1 + k ≤ length src
-    on_fits k r e = omega (arith, (reach (On k r) e).0)
+    pub on_fits : (k r : ℕ) → text_byte q (get_or src j 0) (drop (j + 1) src) ≡ Ok (Some (k, r)) → j + 1 + k ≤ length src
+    on_fits k r e = omega (arith, (reach (Ok (Some (k, r))) e).0)
 
-    pub run_on : (k r e b : ℕ) → text_byte q (get_or src j 0) (drop (j + 1) src) ≡ On k r → Passed is_plain true src (j + 1 + k) (length src) e →
+    pub run_on : (k r e b : ℕ) → text_byte q (get_or src j 0) (drop (j + 1) src) ≡ Ok (Some (k, r)) → Passed is_plain true src (j + 1 + k) (length src) e →
         b ≡ brackets_after r (j + 1 + k) e → Reached src at e b
     run_on k r e b x p y =
         let g : k ≤ length (drop (j + 1) src) = omega (arith, on_fits k r x, length-drop (j + 1) src) in
@@ -66,7 +64,7 @@ module _ {src : Bytes} {at j q : ℕ} (w : Reached src at j q) where
         record {
           forward = omega (arith, w.forward, p.forward);
           inside = p.inside;
-          few = omega (arith, w.few, p.forward, (reach (On k r) x).1, brackets-most r (j + 1 + k) e);
+          few = omega (arith, w.few, p.forward, (reach (Ok (Some (k, r))) x).1, brackets-most r (j + 1 + k) e);
           same =
               w.same ∙ scan-on src q (j - at) j k r h x g ∙ scan-passed r (j - at + 1 + k) p ∙ ap (λ (c : ℕ). scan c 0 (j - at + 1 + k + (e - (j + 1 + k))) (drop e src)) (sym y) ∙
               ap (λ (m : ℕ). scan b 0 m (drop e src)) n;

@@ -10,10 +10,6 @@ use lib.Seq.{slice, drop-cons, drop-drop, get_or-drop}
 use Rattle.xml.specs.Bytes.{Bytes}
 use Rattle.xml.specs.Forest.{Forest, end, elem, text, join}
 use Rattle.xml.specs.Read.{unescape, scan, Tag, named, timed, Stack, outer, inside, move, wrong, broken, characters, step, read}
-use Rattle.xml.specs.declared.Run.{Run}
-use Rattle.xml.specs.declared.Run.TheVariants.{Upto, Stop}
-use Rattle.xml.specs.declared.Start.TheVariants.{Opens, Lone, Timed, Off}
-use Rattle.xml.specs.declared.Step.{Step}
 use Rattle.xml.specs.Tape.{Node, Tape, at-end, at-text, at-elem, size}
 use Rattle.xml.specs.TapeLaws.{slice-part}
 use Rattle.xml.specs.TapeNew.{head_of, new-next, new-kept, new-node}
@@ -25,6 +21,10 @@ use Rattle.xml.specs.Tight.{Far, start-far, run-then}
 use Rattle.xml.specs.Tokens.{StartRead}
 use Rattle.xml.specs.State.{Reading, Running, Opening, Noted, Stepped}
 use Rattle.xml.proofs.Steps.{in-text, stops, noted}
+use Rattle.std.specs.Prelude.{Result, Ok, Err}
+use Rattle.xml.specs.declared.ReadError.{ReadError}
+use Rattle.xml.specs.declared.reader.Progress.{Progress}
+use Rattle.xml.specs.declared.Start.TheVariants.{Opens, Lone, Timed}
 
 -- ---- what is open
 pub record Around (src cells : List ℕ) (st : Stack) (f : Forest) (top n : ℕ) : Type 0 where
@@ -57,24 +57,24 @@ module _ {a : Bool} {src : Bytes} {cells : List ℕ} {at count top : ℕ} (w : R
       ∙ ap (characters (inside i.tag i.before i.stack) rr.forest) (sym d)
       ∙ ap (λ (x : Stack). characters x rr.forest (drop at src)) (sym i.is)
 
-  pub run-range : (r : Run) → r ≡ scan 0 0 0 (drop at src) → RunIn 1 (length src - at) r
+  pub run-range : (r : Result ℕ ℕ) → r ≡ scan 0 0 0 (drop at src) → RunIn 1 (length src - at) r
   run-range r e =
       let here = w.here in
       let l : 1 + length (drop (suc at) src) ≡ length src - at = omega (arith, length-drop (suc at) src) in
       subst (RunIn 1 (length src - at)) (sym e)
       (rw (← l, drop-cons src at 0 here) (scan-first (get_or src at 0) (drop (suc at) src) w.other))
 
-  pub stop-in : (k : ℕ) → Stop k ≡ scan 0 0 0 (drop at src) → at + k ≤ length src
+  pub stop-in : (k : ℕ) → Err k ≡ scan 0 0 0 (drop at src) → at + k ≤ length src
   stop-in k e =
-      let g : k ≤ length src - at = run-range (Stop k) e in
+      let g : k ≤ length src - at = run-range (Err k) e in
       omega (arith, w.here)
 
-  pub run-bad : (k : ℕ) → Stop k ≡ scan 0 0 0 (drop at src) → read a src ≡ broken (at + k)
+  pub run-bad : (k : ℕ) → Err k ≡ scan 0 0 0 (drop at src) → read a src ≡ broken (at + k)
   run-bad k e = stops rr w.here k (at + k) (chars ∙ chars-stop rr.stack rr.forest (drop at src) k (sym e)) refl
 
-  pub run_small : (k : ℕ) → Upto k ≡ scan 0 0 0 (drop at src) → (1 ≤ k) × (at + k ≤ length src) × (k ≤ 32767)
+  pub run_small : (k : ℕ) → Ok k ≡ scan 0 0 0 (drop at src) → (1 ≤ k) × (at + k ≤ length src) × (k ≤ 32767)
   run_small k e =
-      let g : (1 ≤ k) × (k ≤ length src - at) = run-range (Upto k) e in
+      let g : (1 ≤ k) × (k ≤ length src - at) = run-range (Ok k) e in
       let here = w.here in
       let short = rr.short in
       let few = rr.few in
@@ -83,12 +83,12 @@ module _ {a : Bool} {src : Bytes} {cells : List ℕ} {at count top : ℕ} (w : R
       (g.0, omega arith, omega arith)
 
   -- a tag stands after a run
-  run-then-at : (k : ℕ) → Upto k ≡ scan 0 0 0 (drop at src) → at + k < length src → get_or src (at + k) 0 ≡ code "<"
+  run-then-at : (k : ℕ) → Ok k ≡ scan 0 0 0 (drop at src) → at + k < length src → get_or src (at + k) 0 ≡ code "<"
   run-then-at k e h =
       let here = w.here in
       sym (get_or-drop at src k 0) ∙ run-then (drop at src) k (sym e) (omega (arith, length-drop at src))
 
-  pub run-good : (k : ℕ) {new : List ℕ} {o : Step} {h : ℕ} → Upto k ≡ scan 0 0 0 (drop at src) → h ≡ head_of at k 0 →
+  pub run-good : (k : ℕ) {new : List ℕ} {o : Result Progress ReadError} {h : ℕ} → Ok k ≡ scan 0 0 0 (drop at src) → h ≡ head_of at k 0 →
       Noted cells count h (count + 1) (at + k) top new o → Stepped a src cells at count new o
   unfolding size
   run-good k e is n =
@@ -105,38 +105,38 @@ module _ {a : Bool} {src : Bytes} {cells : List ℕ} {at count top : ℕ} (w : O
   abbrev ro : Reading a src cells at count top
   ro = w.reading
 
-  pub open-bad : (k : ℕ) → StartRead a (drop (at + 1) src) (Off k) → read a src ≡ broken (at + k)
+  pub open-bad : (k : ℕ) → StartRead a (drop (at + 1) src) (Err k) → read a src ≡ broken (at + k)
   open-bad k e = stops ro w.here k (at + k) (w.starts ∙ e ro.stack ro.forest) refl
 
-  pub bad-in : (k : ℕ) → StartRead a (drop (at + 1) src) (Off k) → at + k ≤ length src
+  pub bad-in : (k : ℕ) → StartRead a (drop (at + 1) src) (Err k) → at + k ≤ length src
   bad-in k e =
       let g : k ≤ suc (length src - (at + 1)) = in-text ro w.here (wrong k) (w.starts ∙ e ro.stack ro.forest) in
       omega (arith, w.here)
 
-  pub opens_in : (n : ℕ) → StartRead a (drop (at + 1) src) (Opens n) → at + 2 + n ≤ length src
+  pub opens_in : (n : ℕ) → StartRead a (drop (at + 1) src) (Ok (Opens n)) → at + 2 + n ≤ length src
   opens_in n e =
       let g : 1 + n ≤ length src - (at + 1) = in-text ro w.here _ (w.starts ∙ e ro.stack ro.forest) in
       omega (arith, w.here)
 
-  pub lone-in : (n : ℕ) → StartRead a (drop (at + 1) src) (Lone n) → at + 3 + n ≤ length src
+  pub lone-in : (n : ℕ) → StartRead a (drop (at + 1) src) (Ok (Lone n)) → at + 3 + n ≤ length src
   lone-in n e =
       let g : 2 + n ≤ length src - (at + 1) = in-text ro w.here _ (w.starts ∙ e ro.stack ro.forest) in
       omega (arith, w.here)
 
-  pub timed-in : (n : ℕ) → StartRead a (drop (at + 1) src) (Timed n) → at + 8 + n ≤ length src
+  pub timed-in : (n : ℕ) → StartRead a (drop (at + 1) src) (Ok (Timed n)) → at + 8 + n ≤ length src
   timed-in n e =
       let g : 7 + n ≤ length src - (at + 1) = in-text ro w.here _ (w.starts ∙ e ro.stack ro.forest) in
       omega (arith, w.here)
 
   opened : (o : Tag) (k p start len : ℕ) → step a ro.stack ro.forest (drop at src) ≡ move (inside o ro.forest ro.stack) end k → p ≡ at + 1 + k →
-      start + len ≤ length src → len ≤ 32767 → tag_kind o < 4 → 2 ≤ k → slice start (start + len) src ≡ tag_bytes o → {new : List ℕ} {r : Step} {h : ℕ} → h ≡ head_of start len (tag_kind o) →
+      start + len ≤ length src → len ≤ 32767 → tag_kind o < 4 → 2 ≤ k → slice start (start + len) src ≡ tag_bytes o → {new : List ℕ} {r : Result Progress ReadError} {h : ℕ} → h ≡ head_of start len (tag_kind o) →
       Noted cells count h top p (count + 1) new r → Stepped a src cells at count new r
   opened o k p start len e q inn small kinds far b is n =
       noted ro w.here (inside o ro.forest ro.stack) end k p start len (tag_kind o) top (count + 1) e q (open-size ro.stack ro.forest o) inn small kinds
       (omega (arith, ro.few)) (λ z h d. omega (arith, ro.few))
       (λ v m. held-open o (held_same v (new-kept m) ro.held) (subst (Node src v count (tag_kind o)) b (new-node m)) (new-next m)) is n
 
-  pub opens-good : (n : ℕ) {new : List ℕ} {r : Step} {h : ℕ} → StartRead a (drop (at + 1) src) (Opens n) → h ≡ head_of (at + 1) n 1 →
+  pub opens-good : (n : ℕ) {new : List ℕ} {r : Result Progress ReadError} {h : ℕ} → StartRead a (drop (at + 1) src) (Ok (Opens n)) → h ≡ head_of (at + 1) n 1 →
       Noted cells count h top (at + 2 + n) (count + 1) new r → Stepped a src cells at count new r
   opens-good n e is m =
       let l = opens_in n e in
@@ -145,7 +145,7 @@ module _ {a : Bool} {src : Bytes} {cells : List ℕ} {at count top : ℕ} (w : O
       opened (named (take n (drop (at + 1) src))) (1 + n) (at + 2 + n) (at + 1) n (w.starts ∙ e ro.stack ro.forest) (omega arith) (omega arith) (omega arith)
       (omega arith) far (slice-part (at + 1) n src) is m
 
-  pub timed-good : (n : ℕ) {new : List ℕ} {r : Step} {h : ℕ} → StartRead a (drop (at + 1) src) (Timed n) → h ≡ head_of (at + 6) n 2 →
+  pub timed-good : (n : ℕ) {new : List ℕ} {r : Result Progress ReadError} {h : ℕ} → StartRead a (drop (at + 1) src) (Ok (Timed n)) → h ≡ head_of (at + 6) n 2 →
       Noted cells count h top (at + 8 + n) (count + 1) new r → Stepped a src cells at count new r
   timed-good n e is m =
       let l = timed-in n e in
@@ -156,7 +156,7 @@ module _ {a : Bool} {src : Bytes} {cells : List ℕ} {at count top : ℕ} (w : O
       opened (timed (take n (drop 4 (drop 1 s)))) (7 + n) (at + 8 + n) (at + 6) n (w.starts ∙ e ro.stack ro.forest) (omega arith) (omega arith) (omega arith)
       (omega arith) (omega arith) (slice-part (at + 6) n src ∙ ap (take n) (sym d)) is m
 
-  pub lone-good : (n : ℕ) {new : List ℕ} {r : Step} {h : ℕ} → StartRead a (drop (at + 1) src) (Lone n) → h ≡ head_of (at + 1) n 1 →
+  pub lone-good : (n : ℕ) {new : List ℕ} {r : Result Progress ReadError} {h : ℕ} → StartRead a (drop (at + 1) src) (Ok (Lone n)) → h ≡ head_of (at + 1) n 1 →
       Noted cells count h (count + 1) (at + 3 + n) top new r → Stepped a src cells at count new r
   unfolding size
   lone-good n e is m =

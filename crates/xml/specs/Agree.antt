@@ -1,16 +1,11 @@
 -- Texts that begin with the same bytes: what reads no further than these answers the same for both.
-use Rattle.std.specs.Prelude.{◌≡◌, refl, Bool, true, false, [], ◌∷◌, ◌++◌, ◌⊎◌, ℕ, zero, suc, ◌+◌, ◌-◌, ◌<◌, ◌≤◌, max, eqb, length, take, drop, get_or}
+use Rattle.std.specs.Prelude.{◌≡◌, refl, Bool, true, false, [], ◌∷◌, ◌++◌, ◌⊎◌, ℕ, zero, suc, ◌+◌, ◌-◌, ◌<◌, ◌≤◌, max, eqb, length, take, drop, get_or, Result, Ok, Err, Option, Some, None}
 use Rattle.std.proofs.Common.{ap, sym, ◌∙◌, subst, inl, inr, ⊎_elim, not-suc-le-zero, le_of_suc-le-suc, arith, ne_eqb, eqb-true}
 use Prim.Native.Char.{code}
 use Rattle.std.proofs.lemmas.Bool.{eqb-false}
 use Rattle.xml.specs.Bytes.{Bytes, bytes, is_start, is_name_byte, is_times}
 use Rattle.xml.specs.Read.{common, name_rest, name_len, times_len, further, try, entity_at, text_byte, scan, read_compute}
-use Rattle.xml.specs.declared.Found.{Found}
-use Rattle.xml.specs.declared.Found.TheVariants.{Hit, Miss}
-use Rattle.xml.specs.declared.Next.{Next}
-use Rattle.xml.specs.declared.Next.TheVariants.{Over, On, Off}
-use Rattle.xml.specs.declared.Run.{Run}
-use Rattle.xml.specs.declared.Run.TheVariants.{Upto, Stop}
+use Rattle.xml.specs.Truth.{ok-inj}
 use Rattle.xml.specs.ScanLaws.{name_rest-cons, name_rest-off, name_len-cons, name_len-off, times_len-cons, times_len-off, common-cons, common-off, common-self, try-hit, try-miss, begins, further-hit}
 use Rattle.xml.specs.TextLaws.{place, Reach, byte-reach, byte-over, byte-hit, byte-miss}
 
@@ -83,23 +78,23 @@ common-same (w ∷ ws) (suc m) s s' h (more {b = b} {s = u} {s' = u'} a) = at (e
 
 -- ---- entities
 
-pub found-apart : {A : Type 0} (n c k : ℕ) → Hit n c ≡ Miss k → A
+pub found-apart : {A : Type 0} (n c k : ℕ) → ◌≡◌ {A = Result (ℕ × ℕ) ℕ} (Ok (n, c)) (Err k) → A
 found-apart n c k e = let z : ◌≡◌ {A = ℕ} 0 1 = cc in absurd (omega arith)
 
-pub miss-is : (j k : ℕ) → Miss j ≡ Miss k → j ≡ k
+pub miss-is : (j k : ℕ) → ◌≡◌ {A = Result (ℕ × ℕ) ℕ} (Err j) (Err k) → j ≡ k
 miss-is j k e = cc
 
-pub further-miss : (c : ℕ) (o : Found) (k : ℕ) → further c o ≡ Miss k → (j : ℕ) × (o ≡ Miss j) × (max c j ≡ k)
+pub further-miss : (c : ℕ) (o : Result (ℕ × ℕ) ℕ) (k : ℕ) → further c o ≡ Err k → (j : ℕ) × (o ≡ Err j) × (max c j ≡ k)
 unfolding further
-further-miss c (Hit n b) k e = found-apart n b k e
-further-miss c (Miss j) k e = (j, refl, miss-is (max c j) k e)
+further-miss c (Ok (n, b)) k e = found-apart n b k e
+further-miss c (Err j) k e = (j, refl, miss-is (max c j) k e)
 
-try-miss-same : (w : Bytes) (b m : ℕ) (s s' : Bytes) (o o' : Found) (k : ℕ) → try w b s o ≡ Miss k → k < m → Agrees m s s' →
-    ((j : ℕ) → j ≤ k → o ≡ Miss j → o' ≡ Miss j) → try w b s' o' ≡ Miss k
+try-miss-same : (w : Bytes) (b m : ℕ) (s s' : Bytes) (o o' : Result (ℕ × ℕ) ℕ) (k : ℕ) → try w b s o ≡ Err k → k < m → Agrees m s s' →
+    ((j : ℕ) → j ≤ k → o ≡ Err j → o' ≡ Err j) → try w b s' o' ≡ Err k
 unfolding further
 try-miss-same w b m s s' o o' k e h a f = at (eqb (common w s) (length w)) refl
   where
-    at : (t : Bool) → eqb (common w s) (length w) ≡ t → try w b s' o' ≡ Miss k
+    at : (t : Bool) → eqb (common w s) (length w) ≡ t → try w b s' o' ≡ Err k
     at true q = found-apart (length w) b k (sym (try-hit w b s o (eqb-true (common w s) (length w) q)) ∙ e)
     at false q =
         let no = eqb-false (common w s) (length w) q in
@@ -107,10 +102,10 @@ try-miss-same w b m s s' o o' k e h a f = at (eqb (common w s) (length w)) refl
         let i : max (common w s) x.0 ≡ k = x.2 in
         let c : common w s < m = omega arith in
         let g : common w s' ≡ common w s = common-same w m s s' c a in
-        let y : o' ≡ Miss x.0 = f x.0 (omega arith) x.1 in
-        try-miss w b s' o' (λ z. no (sym g ∙ z)) ∙ ap (λ (n : ℕ). further n o') g ∙ ap (further (common w s)) y ∙ ap Miss i
+        let y : o' ≡ Err x.0 = f x.0 (omega arith) x.1 in
+        try-miss w b s' o' (λ z. no (sym g ∙ z)) ∙ ap (λ (n : ℕ). further n o') g ∙ ap (further (common w s)) y ∙ ap Err i
 
-pub entity-miss-same : (m : ℕ) (s s' : Bytes) (k : ℕ) → entity_at s ≡ Miss k → k < m → Agrees m s s' → entity_at s' ≡ Miss k
+pub entity-miss-same : (m : ℕ) (s s' : Bytes) (k : ℕ) → entity_at s ≡ Err k → k < m → Agrees m s s' → entity_at s' ≡ Err k
 unfolding bytes entity_at
 entity-miss-same m s s' k e h a =
     try-miss-same (bytes "lt;") (code "<") m s s' _ _ k e h a
@@ -135,47 +130,47 @@ pub record Begun (w : Bytes) (b : ℕ) (s : Bytes) (n c : ℕ) : Type 0 where
   long : n ≡ length w
   means : c ≡ b
 
-hit-is : (j b n c : ℕ) → Hit j b ≡ Hit n c → (n ≡ j) × (c ≡ b)
-hit-is j b n c e = (cc, cc)
+hit-is : (j b n c : ℕ) → ◌≡◌ {A = Result (ℕ × ℕ) ℕ} (Ok (j, b)) (Ok (n, c)) → (n ≡ j) × (c ≡ b)
+hit-is j b n c e = let p = ok-inj e in (sym (ap (λ x. x.0) p), sym (ap (λ x. x.1) p))
 
-try-cases : (w : Bytes) (b : ℕ) (s : Bytes) (o : Found) (n c : ℕ) → try w b s o ≡ Hit n c → Begun w b s n c ⊎ (o ≡ Hit n c)
+try-cases : (w : Bytes) (b : ℕ) (s : Bytes) (o : Result (ℕ × ℕ) ℕ) (n c : ℕ) → try w b s o ≡ Ok (n, c) → Begun w b s n c ⊎ (o ≡ Ok (n, c))
 try-cases w b s o n c e = at (eqb (common w s) (length w)) refl
   where
-    at : (t : Bool) → eqb (common w s) (length w) ≡ t → Begun w b s n c ⊎ (o ≡ Hit n c)
+    at : (t : Bool) → eqb (common w s) (length w) ≡ t → Begun w b s n c ⊎ (o ≡ Ok (n, c))
     at true q =
         let g = eqb-true (common w s) (length w) q in
         let x = hit-is (length w) b n c (sym (try-hit w b s o g) ∙ e) in
         inl (record { is = begins w s g; long = x.0; means = x.1 })
     at false q = inr (further-hit (common w s) o n c (sym (try-miss w b s o (eqb-false (common w s) (length w) q)) ∙ e))
 
-begun-same : (w : Bytes) (b m : ℕ) (s s' : Bytes) (n c : ℕ) → ((r : Bytes) → entity_at (w ++ r) ≡ Hit (length w) b) → n ≤ m → Agrees m s s' →
-    Begun w b s n c → entity_at s' ≡ Hit n c
+begun-same : (w : Bytes) (b m : ℕ) (s s' : Bytes) (n c : ℕ) → ((r : Bytes) → entity_at (w ++ r) ≡ Ok (length w, b)) → n ≤ m → Agrees m s s' →
+    Begun w b s n c → entity_at s' ≡ Ok (n, c)
 begun-same w b m s s' n c f h a g =
     let l : length w ≤ m = omega (arith, g.long) in
     let x = begins-same w (drop (length w) s) s' m l (subst (λ (y : Bytes). Agrees m y s') g.is a) in
-    ap entity_at x ∙ f (drop (length w) s') ∙ ap (λ (y : ℕ). Hit y b) (sym g.long) ∙ ap (Hit n) (sym g.means)
+    ap entity_at x ∙ f (drop (length w) s') ∙ ap (λ (y : ℕ). Ok (y, b)) (sym g.long) ∙ ap (λ (y : ℕ). Ok (n, y)) (sym g.means)
 
-pub lt-hit : (r : Bytes) → entity_at (bytes "lt;" ++ r) ≡ Hit 3 (code "<")
+pub lt-hit : (r : Bytes) → entity_at (bytes "lt;" ++ r) ≡ Ok (3, code "<")
 unfolding read_compute
 lt-hit r = refl
 
-pub gt-hit : (r : Bytes) → entity_at (bytes "gt;" ++ r) ≡ Hit 3 (code ">")
+pub gt-hit : (r : Bytes) → entity_at (bytes "gt;" ++ r) ≡ Ok (3, code ">")
 unfolding read_compute
 gt-hit r = refl
 
-pub amp-hit : (r : Bytes) → entity_at (bytes "amp;" ++ r) ≡ Hit 4 (code "&")
+pub amp-hit : (r : Bytes) → entity_at (bytes "amp;" ++ r) ≡ Ok (4, code "&")
 unfolding read_compute
 amp-hit r = refl
 
-pub quot-hit : (r : Bytes) → entity_at (bytes "quot;" ++ r) ≡ Hit 5 (code "\"")
+pub quot-hit : (r : Bytes) → entity_at (bytes "quot;" ++ r) ≡ Ok (5, code "\"")
 unfolding read_compute
 quot-hit r = refl
 
-pub apos-hit : (r : Bytes) → entity_at (bytes "apos;" ++ r) ≡ Hit 5 (code "'")
+pub apos-hit : (r : Bytes) → entity_at (bytes "apos;" ++ r) ≡ Ok (5, code "'")
 unfolding read_compute
 apos-hit r = refl
 
-pub entity-hit-same : (m : ℕ) (s s' : Bytes) (n c : ℕ) → entity_at s ≡ Hit n c → n ≤ m → Agrees m s s' → entity_at s' ≡ Hit n c
+pub entity-hit-same : (m : ℕ) (s s' : Bytes) (n c : ℕ) → entity_at s ≡ Ok (n, c) → n ≤ m → Agrees m s s' → entity_at s' ≡ Ok (n, c)
 unfolding bytes entity_at
 entity-hit-same m s s' n c e h a =
     ⊎_elim (begun-same (bytes "lt;") (code "<") m s s' n c lt-hit h a)
@@ -192,10 +187,10 @@ entity-hit-same m s s' n c e h a =
 
 -- ---- runs of text
 
-abbrev pub Enough : ℕ → Next → Type 0
-Enough m Over = 0 ≤ 0
-Enough m (On k r) = k ≤ m
-Enough m (Off k) = k ≤ m
+abbrev pub Enough : ℕ → Result (Option (ℕ × ℕ)) ℕ → Type 0
+Enough m (Ok None) = 0 ≤ 0
+Enough m (Ok (Some (k, r))) = k ≤ m
+Enough m (Err k) = k ≤ m
 
 -- a byte that is neither `<` nor `&` means the same before any text
 byte-alone : (q b : ℕ) (s s' : Bytes) → (b ≡ code "<" → ⊥) → (b ≡ code "&" → ⊥) → text_byte q b s' ≡ text_byte q b s
@@ -205,16 +200,16 @@ byte-alone q b s s' n a = rw (ne_eqb b (code "<") n, ne_eqb b (code "&") a, text
 pub byte-same : (q b m : ℕ) (s s' : Bytes) → Agrees m s s' → Enough m (text_byte q b s) → text_byte q b s' ≡ text_byte q b s
 byte-same q b m s s' a h = at (eqb b (code "<")) refl (eqb b (code "&")) refl (entity_at s) refl
   where
-    at : (x : Bool) → eqb b (code "<") ≡ x → (y : Bool) → eqb b (code "&") ≡ y → (o : Found) → entity_at s ≡ o → text_byte q b s' ≡ text_byte q b s
+    at : (x : Bool) → eqb b (code "<") ≡ x → (y : Bool) → eqb b (code "&") ≡ y → (o : Result (ℕ × ℕ) ℕ) → entity_at s ≡ o → text_byte q b s' ≡ text_byte q b s
     at true x y z o e = byte-over q b s' (eqb-true b (code "<") x) ∙ sym (byte-over q b s (eqb-true b (code "<") x))
     at false x false z o e = byte-alone q b s s' (eqb-false b (code "<") x) (eqb-false b (code "&") z)
-    at false x true z (Hit k c) e =
+    at false x true z (Ok (k, c)) e =
         let p = eqb-false b (code "<") x in
         let r = eqb-true b (code "&") z in
         let g = byte-hit q b s k c p r e in
         let i : k ≤ m = subst (Enough m) g h in
         byte-hit q b s' k c p r (entity-hit-same m s s' k c e i a) ∙ sym g
-    at false x true z (Miss k) e =
+    at false x true z (Err k) e =
         let p = eqb-false b (code "<") x in
         let r = eqb-true b (code "&") z in
         let g = byte-miss q b s k p r e in
@@ -227,14 +222,14 @@ scan-ge q k n [] h = omega arith
 scan-ge q (suc k) n (b ∷ s) h = omega (arith, scan-ge q k (n + 1) s (le_of_suc-le-suc h))
 scan-ge q zero n (b ∷ s) h = at (text_byte q b s) (byte-reach q b s) (λ k r g. scan-ge r k (n + 1) s g)
   where
-    at : (o : Next) → Reach q (length s) o → ((k r : ℕ) → k ≤ length s → n + 1 + k ≤ place (scan r k (n + 1) s)) →
-        n + 0 ≤ place (elim o [ Over ↦ Upto n | On k r ↦ scan r k (n + 1) s | Off k ↦ Stop (n + k) ])
-    at Over g f = omega arith
-    at (On k r) g f = omega (arith, f k r g.0)
-    at (Off k) g f = omega arith
+    at : (o : Result (Option (ℕ × ℕ)) ℕ) → Reach q (length s) o → ((k r : ℕ) → k ≤ length s → n + 1 + k ≤ place (scan r k (n + 1) s)) →
+        n + 0 ≤ place (elim o [ Ok None ↦ Ok n | Ok (Some (k, r)) ↦ scan r k (n + 1) s | Err k ↦ Err (n + k) ])
+    at (Ok None) g f = omega arith
+    at (Ok (Some (k, r))) g f = omega (arith, f k r g.0)
+    at (Err k) g f = omega arith
 
-abbrev pub turn : ℕ → Bytes → Next → Run
-turn n s o = elim o [ Over ↦ Upto n | On k r ↦ scan r k (n + 1) s | Off k ↦ Stop (n + k) ]
+abbrev pub turn : ℕ → Bytes → Result (Option (ℕ × ℕ)) ℕ → Result ℕ ℕ
+turn n s o = elim o [ Ok None ↦ Ok n | Ok (Some (k, r)) ↦ scan r k (n + 1) s | Err k ↦ Err (n + k) ]
 
 pub scan-same : (m q k n : ℕ) (s s' : Bytes) → k ≤ length s → Agrees m s s' → place (scan q k n s) < n + m → scan q k n s' ≡ scan q k n s
 unfolding scan
@@ -242,19 +237,19 @@ scan-same zero q k n s s' l a h = absurd (omega (arith, scan-ge q k n s l))
 scan-same (suc m) q (suc k) n s s' l (more {s = u} {s' = u'} a) h = scan-same m q k (n + 1) u u' (le_of_suc-le-suc l) a (omega arith)
 scan-same (suc m) q zero n s s' l (more {b = b} {s = u} {s' = u'} a) h = at (text_byte q b u) refl (λ k r g i. scan-same m r k (n + 1) u u' g a i)
   where
-    at : (o : Next) → text_byte q b u ≡ o → ((k r : ℕ) → k ≤ length u → place (scan r k (n + 1) u) < n + 1 + m → scan r k (n + 1) u' ≡ scan r k (n + 1) u) →
+    at : (o : Result (Option (ℕ × ℕ)) ℕ) → text_byte q b u ≡ o → ((k r : ℕ) → k ≤ length u → place (scan r k (n + 1) u) < n + 1 + m → scan r k (n + 1) u' ≡ scan r k (n + 1) u) →
         turn n u' (text_byte q b u') ≡ turn n u (text_byte q b u)
-    at Over e f =
+    at (Ok None) e f =
         let g = byte-same q b m u u' a (subst (Enough m) (sym e) (omega arith)) in
         ap (turn n u') (g ∙ e) ∙ sym (ap (turn n u) e)
-    at (On k r) e f =
+    at (Ok (Some (k, r))) e f =
         let i = subst (Reach q (length u)) e (byte-reach q b u) in
-        let p : place (scan r k (n + 1) u) < n + suc m = subst (λ (o : Next). place (turn n u o) < n + suc m) e h in
+        let p : place (scan r k (n + 1) u) < n + suc m = subst (λ (o : Result (Option (ℕ × ℕ)) ℕ). place (turn n u o) < n + suc m) e h in
         let j : k ≤ m = omega (arith, scan-ge r k (n + 1) u i.0) in
         let g = byte-same q b m u u' a (subst (Enough m) (sym e) j) in
         ap (turn n u') (g ∙ e) ∙ f k r i.0 (omega arith) ∙ sym (ap (turn n u) e)
-    at (Off k) e f =
-        let p : n + k < n + suc m = subst (λ (o : Next). place (turn n u o) < n + suc m) e h in
+    at (Err k) e f =
+        let p : n + k < n + suc m = subst (λ (o : Result (Option (ℕ × ℕ)) ℕ). place (turn n u o) < n + suc m) e h in
         let j : k ≤ m = omega arith in
         let g = byte-same q b m u u' a (subst (Enough m) (sym e) j) in
         ap (turn n u') (g ∙ e) ∙ sym (ap (turn n u) e)

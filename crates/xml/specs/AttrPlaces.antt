@@ -3,7 +3,7 @@ use Prim.Native.Nat.{ℕ, suc, ◌+◌, ◌-◌, ◌≤◌, ◌<◌}
 use Prim.Native.Char.{code}
 use Rattle.std.proofs.Common.{arith, ap₂, sym, ◌∙◌, subst, append_assoc, eq-eqb, ne_eqb, eqb-true, length-append, length-drop, drop_of_length-le, drop-drop, get_or-drop, length-take-le}
 use Rattle.std.proofs.Math.Path.{◌≡◌, ap}
-use Rattle.std.specs.Prelude.{refl, Bool, true, ◌&&◌, ◌||◌, List, [], ◌∷◌, ◌++◌, length, take, drop, get_or}
+use Rattle.std.specs.Prelude.{refl, Bool, true, ◌&&◌, ◌||◌, List, [], ◌∷◌, ◌++◌, length, take, drop, get_or, Result, Ok, Err, Option, Some, None}
 use Rattle.std.proofs.Math.Bool.{false}
 use Rattle.std.proofs.lemmas.Bool.{eqb-false}
 use Rattle.std.proofs.Math.Dec.{eqb}
@@ -11,7 +11,7 @@ use Rattle.std.proofs.Math.Seq.{slice, split_at, take-append-add}
 use Rattle.xml.specs.Bytes.{Bytes, any, same, is_empty, is_name}
 use Rattle.xml.specs.Tags.{parts, is_quote, is_new, fresh, new_len}
 use Rattle.xml.specs.Read.{name_len, value, attr_byte, attrs}
-use Rattle.xml.specs.Truth.{by-test, clash, both_true, not_so, or-second}
+use Rattle.xml.specs.Truth.{ok-inj, some-inj, by-test, clash, both_true, not_so, or-second}
 use Rattle.xml.specs.TapeLaws.{slice-part}
 use Rattle.xml.specs.TextLaws.{at-cons, place}
 use Rattle.xml.specs.StepLaws.{in-range}
@@ -23,34 +23,29 @@ use Rattle.xml.specs.Attrs.{value_at, Begins, Named, AttrCase, over, unnamed, un
 use Rattle.xml.specs.TagLaws.{parts-one}
 use Rattle.xml.specs.NameCells.{NameCells, SomeNames, Below}
 use Rattle.xml.specs.NameCellLaws.{no_names}
-use Rattle.xml.specs.declared.Next.{Next}
-use Rattle.xml.specs.declared.Next.TheVariants.{Over, On, Off}
-use Rattle.xml.specs.declared.Run.{Run}
-use Rattle.xml.specs.declared.Run.TheVariants.{Upto, Stop}
-use Rattle.xml.specs.declared.Extent.{Extent}
-use Rattle.xml.specs.declared.Extent.TheVariants.{Full}
-use Rattle.xml.specs.declared.Extent.TheVariants.{Upto as ExtentUpto, Stop as ExtentStop}
+use Rattle.xml.specs.declared.ReadError.{ReadError}
+use Rattle.xml.specs.declared.ReadError.TheVariants.{Wrong, Full}
 
 -- ---- what the byte after a name or an attribute says, with the length m of the name of an attribute that goes on
-abbrev with_name : ℕ → Next → Next
-with_name m Over = Over
-with_name m (On k r) = On k m
-with_name m (Off k) = Off k
+abbrev with_name : ℕ → Result (Option (ℕ × ℕ)) ℕ → Result (Option (ℕ × ℕ)) ℕ
+with_name m (Ok None) = Ok None
+with_name m (Ok (Some (k, r))) = Ok (Some (k, m))
+with_name m (Err k) = Err k
 
-unfoldable pub attr_named : List Bytes → ℕ → Bytes → Next
+unfoldable pub attr_named : List Bytes → ℕ → Bytes → Result (Option (ℕ × ℕ)) ℕ
 attr_named used b s = with_name (new_len used s) (attr_byte used b s)
 
 module _ (used : List Bytes) (s : Bytes) where
-  pub named_other : (b : ℕ) → (b ≡ code " " → ⊥) → attr_named used b s ≡ Over
+  pub named_other : (b : ℕ) → (b ≡ code " " → ⊥) → attr_named used b s ≡ Ok None
   unfolding attr_named
   named_other b d = ap (with_name (new_len used s)) (attr-over used b s (rw (ne_eqb b (code " ") d)))
 
-  pub named-never : fresh 32 used [] ≡ false → attr_named used (code " ") s ≡ Over
+  pub named-never : fresh 32 used [] ≡ false → attr_named used (code " ") s ≡ Ok None
   unfolding attr_named
   named-never e = ap (with_name (new_len used s)) (attr-over used (code " ") s e)
 
   -- no new name stands there
-  pub named-old : fresh 32 used [] ≡ true → is_new used (take (name_len s) s) ≡ false → attr_named used (code " ") s ≡ Off (1 + new_len used s)
+  pub named-old : fresh 32 used [] ≡ true → is_new used (take (name_len s) s) ≡ false → attr_named used (code " ") s ≡ Err (1 + new_len used s)
   unfolding attr_named
   named-old f old = ap (with_name M) (attr-unnamed used (code " ") s f (not_so (is_new used (take M s) && eqb (get_or s M 0) (code "=")) wrong))
     where
@@ -68,7 +63,7 @@ module _ (used : List Bytes) (s : Bytes) where
 
 -- a new name of m bytes stands there
 module _ (used : List Bytes) (src : Bytes) (at m : ℕ) (l : m ≡ name_len (drop at src)) (new : is_new used (take m (drop at src)) ≡ true) where
-  abbrev Here : Next
+  abbrev Here : Result (Option (ℕ × ℕ)) ℕ
   Here = attr_named used (code " ") (drop at src)
 
   len : new_len used (drop at src) ≡ m
@@ -82,11 +77,11 @@ module _ (used : List Bytes) (src : Bytes) (at m : ℕ) (l : m ≡ name_len (dro
       ap (λ (x : ℕ). is_new used (take x (drop at src)) && eqb (get_or (drop at src) x 0) (code "=")) len
       ∙ rw new (ap (λ (x : ℕ). eqb x (code "=")) (get_or-drop at src m 0) ∙ e)
 
-  pub new-unnamed : (get_or src (at + m) 0 ≡ code "=" → ⊥) → Here ≡ Off (1 + m)
+  pub new-unnamed : (get_or src (at + m) 0 ≡ code "=" → ⊥) → Here ≡ Err (1 + m)
   unfolding attr_named
   new-unnamed d =
       ap (with_name (new_len used (drop at src))) (attr-unnamed used (code " ") (drop at src) begins (name-is false (ne_eqb (get_or src (at + m) 0) (code "=") d)))
-      ∙ ap (λ (x : ℕ). Off (1 + x)) len
+      ∙ ap (λ (x : ℕ). Err (1 + x)) len
 
   module _ (equals : get_or src (at + m) 0 ≡ code "=") (q : ℕ) (is : q ≡ get_or src (at + m + 1) 0) where
     named : Named used (code " ") (drop at src) true
@@ -102,23 +97,23 @@ module _ (used : List Bytes) (src : Bytes) (at m : ℕ) (l : m ≡ name_len (dro
         let z : at + (2 + m) ≡ at + m + 2 = omega arith in
         ap₂ (λ (x : ℕ) (y : Bytes). value x 0 0 y) quote-is (ap (λ (x : ℕ). drop (2 + x) (drop at src)) len ∙ drop-drop (2 + m) at src ∙ ap (λ (x : ℕ). drop x src) z)
 
-    pub new-unquoted : is_quote q ≡ false → Here ≡ Off (2 + m)
+    pub new-unquoted : is_quote q ≡ false → Here ≡ Err (2 + m)
     unfolding attr_named
     new-unquoted d =
-        ap (with_name (new_len used (drop at src))) (attr-unquoted used (code " ") (drop at src) begins named (ap is_quote quote-is ∙ d)) ∙ ap (λ (x : ℕ). Off (2 + x)) len
+        ap (with_name (new_len used (drop at src))) (attr-unquoted used (code " ") (drop at src) begins named (ap is_quote quote-is ∙ d)) ∙ ap (λ (x : ℕ). Err (2 + x)) len
 
     module _ (quoted : is_quote q ≡ true) (k : ℕ) where
-      pub new-stops : value q 0 0 (drop (at + m + 2) src) ≡ Stop k → Here ≡ Off (3 + m + k)
+      pub new-stops : value q 0 0 (drop (at + m + 2) src) ≡ Err k → Here ≡ Err (3 + m + k)
       unfolding attr_named
       new-stops e =
           ap (with_name (new_len used (drop at src))) (attr-stops used (code " ") (drop at src) k begins named (ap is_quote quote-is ∙ quoted) (value-is ∙ e))
-          ∙ ap (λ (x : ℕ). Off (3 + x + k)) len
+          ∙ ap (λ (x : ℕ). Err (3 + x + k)) len
 
-      pub new-goes : value q 0 0 (drop (at + m + 2) src) ≡ Upto k → Here ≡ On (3 + m + k) m
+      pub new-goes : value q 0 0 (drop (at + m + 2) src) ≡ Ok k → Here ≡ Ok (Some (3 + m + k, m))
       unfolding attr_named
       new-goes e =
           ap (with_name (new_len used (drop at src))) (attr-goes used (code " ") (drop at src) k begins named (ap is_quote quote-is ∙ quoted) (value-is ∙ e))
-          ∙ ap (λ (x : ℕ). On (3 + x + k) x) len
+          ∙ ap (λ (x : ℕ). Ok (Some (3 + x + k, x))) len
 
 -- the part of a text in which a name of m bytes stands
 pub part_same : (s : Bytes) (from m : ℕ) → take (from + m - from) s ≡ take m s
@@ -137,48 +132,49 @@ name_in_lem src at m h l = omega (arith, name_len-fits (drop at src), length-dro
 pub quote-here : (src : Bytes) (i q : ℕ) → q ≡ get_or src i 0 → is_quote q ≡ true → i < length src
 quote-here src i q e h = quote-in src i (ap is_quote (sym e) ∙ h)
 
-pub value_in_lem : (q : ℕ) (s : Bytes) (r : Run) → value q 0 0 s ≡ r → place r ≤ length s
+pub value_in_lem : (q : ℕ) (s : Bytes) (r : Result ℕ ℕ) → value q 0 0 s ≡ r → place r ≤ length s
 value_in_lem q s r e = at r (subst (ValueIn (0 + 0) (0 + length s)) e (value-range q 0 0 s (omega arith)))
   where
-    at : (r : Run) → ValueIn (0 + 0) (0 + length s) r → place r ≤ length s
-    at (Upto k) h = omega arith
-    at (Stop k) h = omega arith
+    at : (r : Result ℕ ℕ) → ValueIn (0 + 0) (0 + length s) r → place r ≤ length s
+    at (Ok k) h = omega arith
+    at (Err k) h = omega arith
 
 -- ---- what an answer says of the text
 module _ (used : List Bytes) (b : ℕ) (s : Bytes) where
-  over-is : attr_named used b s ≡ Over → attr_byte used b s ≡ Over
+  over-is : attr_named used b s ≡ Ok None → attr_byte used b s ≡ Ok None
   unfolding attr_named
   over-is e = at (attr_byte used b s) e
     where
-      at : (o : Next) → with_name (new_len used s) o ≡ Over → o ≡ Over
-      at Over h = h
-      at (On k r) h = cc
-      at (Off k) h = h
+      at : (o : Result (Option (ℕ × ℕ)) ℕ) → with_name (new_len used s) o ≡ Ok None → o ≡ Ok None
+      at (Ok None) h = h
+      at (Ok (Some (k, r))) h = cc
+      at (Err k) h = h
 
-  off-is : (k : ℕ) → attr_named used b s ≡ Off k → attr_byte used b s ≡ Off k
+  off-is : (k : ℕ) → attr_named used b s ≡ Err k → attr_byte used b s ≡ Err k
   unfolding attr_named
   off-is k e = at (attr_byte used b s) e
     where
-      at : (o : Next) → with_name (new_len used s) o ≡ Off k → o ≡ Off k
-      at Over h = h
-      at (On j r) h = cc
-      at (Off j) h = h
+      at : (o : Result (Option (ℕ × ℕ)) ℕ) → with_name (new_len used s) o ≡ Err k → o ≡ Err k
+      at (Ok None) h = h
+      at (Ok (Some (j, r))) h = cc
+      at (Err j) h = h
 
-  on-stands : (k m : ℕ) → attr_named used b s ≡ On k m → Stands used b s k × (new_len used s ≡ m)
+  on-stands : (k m : ℕ) → attr_named used b s ≡ Ok (Some (k, m)) → Stands used b s k × (new_len used s ≡ m)
   unfolding attr_named
   on-stands k m e = at (attr_byte used b s) (attr-case used b s) e
     where
-      apart : {A : Type 0} {i : ℕ} → Off i ≡ On k m → A
+      apart : {A : Type 0} {i : ℕ} → ◌≡◌ {A = Result (Option (ℕ × ℕ)) ℕ} (Err i) (Ok (Some (k, m))) → A
       apart h = let z : ◌≡◌ {A = ℕ} 0 1 = cc in absurd (omega arith)
 
-      at : (o : Next) → AttrCase used b s o → with_name (new_len used s) o ≡ On k m → Stands used b s k × (new_len used s ≡ m)
+      at : (o : Result (Option (ℕ × ℕ)) ℕ) → AttrCase used b s o → with_name (new_len used s) o ≡ Ok (Some (k, m)) → Stands used b s k × (new_len used s ≡ m)
       at o (over x) h = let z : ◌≡◌ {A = ℕ} 0 1 = cc in absurd (omega arith)
       at o (unnamed x y) h = apart h
       at o (unquoted x y z) h = apart h
       at o (stops x y z v) h = apart h
       at o (goes {k = j} x y z v) h =
-          let i : 3 + new_len used s + j ≡ k = cc in
-          let l : new_len used s ≡ m = cc in
+          let p = some-inj (ok-inj h) in
+          let i : 3 + new_len used s + j ≡ k = ap (λ x. x.0) p in
+          let l : new_len used s ≡ m = ap (λ x. x.1) p in
           (subst (Stands used b s) i (attr-stands used b s j x y z v), l)
 
 -- ---- attributes that were passed: those with the names `used`, of which there are k, up to the place j
@@ -197,27 +193,27 @@ gone-start {src} {at} h =
     record { few = omega arith; to = h; done = []; split = refl; long = omega arith; parted = λ u. omega arith; is = rw z refl }
 
 module _ {src : Bytes} {at : ℕ} {used : List Bytes} {j k : ℕ} (x : Gone src at used j k) where
-  pub gone-end : length src ≤ j → attrs [] 0 0 (drop at src) ≡ Upto (j - at)
+  pub gone-end : length src ≤ j → attrs [] 0 0 (drop at src) ≡ Ok (j - at)
   unfolding attrs
   gone-end h = x.is ∙ ap (attrs used 0 (j - at)) (drop_of_length-le src h)
 
   module _ (here : j < length src) where
-    turned : (o : Next) → attr_byte used (get_or src j 0) (drop (j + 1) src) ≡ o → attrs [] 0 0 (drop at src) ≡ attr_turn used (j - at) (drop (j + 1) src) o
+    turned : (o : Result (Option (ℕ × ℕ)) ℕ) → attr_byte used (get_or src j 0) (drop (j + 1) src) ≡ o → attrs [] 0 0 (drop at src) ≡ attr_turn used (j - at) (drop (j + 1) src) o
     turned o e =
         x.is ∙ ap (attrs used 0 (j - at)) (at-cons src 0 0 j here) ∙ attrs-cons used (j - at) (get_or src j 0) (drop (j + 1) src) ∙ ap (attr_turn used (j - at) (drop (j + 1) src)) e
 
-    pub gone-over : attr_named used (get_or src j 0) (drop (j + 1) src) ≡ Over → attrs [] 0 0 (drop at src) ≡ Upto (j - at)
-    gone-over e = turned Over (over-is used (get_or src j 0) (drop (j + 1) src) e)
+    pub gone-over : attr_named used (get_or src j 0) (drop (j + 1) src) ≡ Ok None → attrs [] 0 0 (drop at src) ≡ Ok (j - at)
+    gone-over e = turned (Ok None) (over-is used (get_or src j 0) (drop (j + 1) src) e)
 
-    pub gone-off : (n : ℕ) → attr_named used (get_or src j 0) (drop (j + 1) src) ≡ Off n → attrs [] 0 0 (drop at src) ≡ Stop (j - at + n)
-    gone-off n e = turned (Off n) (off-is used (get_or src j 0) (drop (j + 1) src) n e)
+    pub gone-off : (n : ℕ) → attr_named used (get_or src j 0) (drop (j + 1) src) ≡ Err n → attrs [] 0 0 (drop at src) ≡ Err (j - at + n)
+    gone-off n e = turned (Err n) (off-is used (get_or src j 0) (drop (j + 1) src) n e)
 
-    pub off-fits : (n : ℕ) → attr_named used (get_or src j 0) (drop (j + 1) src) ≡ Off n → j + n ≤ length src
+    pub off-fits : (n : ℕ) → attr_named used (get_or src j 0) (drop (j + 1) src) ≡ Err n → j + n ≤ length src
     off-fits n e =
         let r = subst (AttrReach (length (drop (j + 1) src))) (off-is used (get_or src j 0) (drop (j + 1) src) n e) (attr-reach used (get_or src j 0) (drop (j + 1) src)) in
         omega (arith, length-drop (j + 1) src)
 
-    module _ (n m : ℕ) (told : attr_named used (get_or src j 0) (drop (j + 1) src) ≡ On n m) where
+    module _ (n m : ℕ) (told : attr_named used (get_or src j 0) (drop (j + 1) src) ≡ Ok (Some (n, m))) where
       pub on_fits : (j + 1 + n ≤ length src) × (j + 1 + m ≤ length src) × (m ≤ 32)
       on_fits =
           let S = drop (j + 1) src in
@@ -276,9 +272,9 @@ module _ {src : Bytes} {at : ℕ} {used : List Bytes} {j k : ℕ} (x : Gone src 
           joined d n s q u = simp append_assoc
 
   -- the whole tag has them
-  gone-parts : (n : ℕ) → attrs [] 0 0 (drop at src) ≡ Upto n → k ≤ length (parts 0 (take n (drop at src)))
+  gone-parts : (n : ℕ) → attrs [] 0 0 (drop at src) ≡ Ok n → k ≤ length (parts 0 (take n (drop at src)))
   gone-parts n e =
-      let r = subst (λ (i : Run). j - at + 0 ≤ place i) (sym x.is ∙ e) (attrs-range used 0 (j - at) (drop j src) (omega arith)).0 in
+      let r = subst (λ (i : Result ℕ ℕ). j - at + 0 ≤ place i) (sym x.is ∙ e) (attrs-range used 0 (j - at) (drop j src) (omega arith)).0 in
       let l = x.long in
       let z : n ≡ length x.done + (n - length x.done) = omega arith in
       let t : take n (drop at src) ≡ x.done ++ take (n - length x.done) (drop j src) =
@@ -287,10 +283,10 @@ module _ {src : Bytes} {at : ℕ} {used : List Bytes} {j k : ℕ} (x : Gone src 
       omega (arith, ap (λ (y : Bytes). length (parts 0 y)) t, x.parted (take (n - length x.done) (drop j src)))
 
 -- ---- how far attributes go, where their names are noted in the cells from base on, of which there are `size` in all
-abbrev pub AttrsRead : Bytes → ℕ → ℕ → Extent → Type 0
-AttrsRead s size base (ExtentUpto n) = attrs [] 0 0 s ≡ Upto n
-AttrsRead s size base (ExtentStop n) = attrs [] 0 0 s ≡ Stop n
-AttrsRead s size base Full = (size < base + length s) × ((n : ℕ) → attrs [] 0 0 s ≡ Upto n → size < base + length (parts 0 (take n s)))
+abbrev pub AttrsRead : Bytes → ℕ → ℕ → Result ℕ ReadError → Type 0
+AttrsRead s size base (Ok n) = attrs [] 0 0 s ≡ Ok n
+AttrsRead s size base (Err (Wrong n)) = attrs [] 0 0 s ≡ Err n
+AttrsRead s size base (Err Full) = (size < base + length s) × ((n : ℕ) → attrs [] 0 0 s ≡ Ok n → size < base + length (parts 0 (take n s)))
 
 pub record Noting (src : Bytes) (at base : ℕ) (before cells : List ℕ) (j k : ℕ) : Type 0 where
   pub used : List Bytes
@@ -308,7 +304,7 @@ module _ {src : Bytes} {at base : ℕ} {before cells : List ℕ} {j k : ℕ} (x 
   pub noting-room : base + k ≤ length cells
   noting-room = x.names.room
 
-  module _ (here : j < length src) (n m : ℕ) (told : (used : List Bytes) → NameCells src cells base k used → On n m ≡ attr_named used (get_or src j 0) (drop (j + 1) src)) where
+  module _ (here : j < length src) (n m : ℕ) (told : (used : List Bytes) → NameCells src cells base k used → Ok (Some (n, m)) ≡ attr_named used (get_or src j 0) (drop (j + 1) src)) where
     -- the name is not noted yet
     pub noting-new : (used : List Bytes) → NameCells src cells base k used → any (same (slice (j + 1) (j + 1 + m) src)) used ≡ false
     noting-new used h =
@@ -331,7 +327,7 @@ module _ {src : Bytes} {at base : ℕ} {before cells : List ℕ} {j k : ℕ} (x 
         }
 
     -- there is no room to note it
-    pub noting-full : base + k ≡ length cells → AttrsRead (drop at src) (length before) base Full
+    pub noting-full : base + k ≡ length cells → AttrsRead (drop at src) (length before) base (Err Full)
     noting-full e =
         let g = gone-on x.gone here n m (sym (told x.used x.names)) in
         let l = x.below.long in

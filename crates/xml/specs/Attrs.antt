@@ -1,5 +1,5 @@
 -- What stands in a start tag is scanned to its end, and what is scanned so is a name with attributes; what the tag means.
-use Rattle.std.specs.Prelude.{ℕ, zero, suc, ◌+◌, ◌≤◌, ◌<◌, ◌≡◌, refl, Bool, true, false, ◌&&◌, List, [], ◌∷◌, ◌++◌, eqb, length, take, drop, get_or}
+use Rattle.std.specs.Prelude.{ℕ, zero, suc, ◌+◌, ◌≤◌, ◌<◌, ◌≡◌, refl, Bool, true, false, ◌&&◌, List, [], ◌∷◌, ◌++◌, eqb, length, take, drop, get_or, Result, Ok, Err, Option, Some, None}
 use Prim.Native.Char.{code}
 use Rattle.std.proofs.Common.{add-zero, not-suc-le-zero, le_of_suc-le-suc, arith, ap, ap₂, sym, ◌∙◌, subst, append_assoc, eq-eqb, ne_eqb, eqb-true, length-append, length-drop, get_or-append-add, drop-cons, drop-drop, length-take-le}
 use Rattle.std.proofs.Math.Seq.{take-append_seam, get_or-append_seam, drop-append-add, split_at}
@@ -13,13 +13,9 @@ use Rattle.xml.specs.StepLaws.{in-range}
 use Rattle.xml.specs.Names.{name-short}
 use Rattle.xml.specs.Fresh.{new-name, fresh-complete, fresh_len-fits, new_len-all}
 use Rattle.xml.specs.Values.{by-quote, ValueIn, value-range, value-all, value-sound}
-use Rattle.xml.specs.declared.Next.{Next}
-use Rattle.xml.specs.declared.Next.TheVariants.{Over, On, Off}
-use Rattle.xml.specs.declared.Run.{Run}
-use Rattle.xml.specs.declared.Run.TheVariants.{Upto, Stop}
 
 -- ---- the byte after a name, or after an attribute
-abbrev pub value_at : Bytes → ℕ → Run
+abbrev pub value_at : Bytes → ℕ → Result ℕ ℕ
 value_at s m = value (get_or s (1 + m) 0) 0 0 (drop (2 + m) s)
 
 module _ (used : List Bytes) (b : ℕ) (s : Bytes) where
@@ -33,30 +29,30 @@ module _ (used : List Bytes) (b : ℕ) (s : Bytes) where
   abbrev pub Quoted : Bool → Type 0
   Quoted t = is_quote (get_or s (1 + new_len used s) 0) ≡ t
 
-  pub data AttrCase : Next → Type 0 where
-    over : eqb b (code " ") && fresh 32 used [] ≡ false → AttrCase Over
-    unnamed : Begins → Named false → AttrCase (Off (1 + new_len used s))
-    unquoted : Begins → Named true → Quoted false → AttrCase (Off (2 + new_len used s))
-    stops : {k : ℕ} → Begins → Named true → Quoted true → value_at s (new_len used s) ≡ Stop k → AttrCase (Off (3 + new_len used s + k))
-    goes : {k : ℕ} → Begins → Named true → Quoted true → value_at s (new_len used s) ≡ Upto k → AttrCase (On (3 + new_len used s + k) 0)
+  pub data AttrCase : Result (Option (ℕ × ℕ)) ℕ → Type 0 where
+    over : eqb b (code " ") && fresh 32 used [] ≡ false → AttrCase (Ok None)
+    unnamed : Begins → Named false → AttrCase (Err (1 + new_len used s))
+    unquoted : Begins → Named true → Quoted false → AttrCase (Err (2 + new_len used s))
+    stops : {k : ℕ} → Begins → Named true → Quoted true → value_at s (new_len used s) ≡ Err k → AttrCase (Err (3 + new_len used s + k))
+    goes : {k : ℕ} → Begins → Named true → Quoted true → value_at s (new_len used s) ≡ Ok k → AttrCase (Ok (Some (3 + new_len used s + k, 0)))
 
-  pub attr-over : eqb b (code " ") && fresh 32 used [] ≡ false → attr_byte used b s ≡ Over
+  pub attr-over : eqb b (code " ") && fresh 32 used [] ≡ false → attr_byte used b s ≡ Ok None
   unfolding attr_byte
   attr-over e = rw (e, attr_byte)
 
-  pub attr-unnamed : Begins → Named false → attr_byte used b s ≡ Off (1 + new_len used s)
+  pub attr-unnamed : Begins → Named false → attr_byte used b s ≡ Err (1 + new_len used s)
   unfolding attr_byte attr_of
   attr-unnamed e h = rw (e, attr_byte) (rw (h, attr_of))
 
-  pub attr-unquoted : Begins → Named true → Quoted false → attr_byte used b s ≡ Off (2 + new_len used s)
+  pub attr-unquoted : Begins → Named true → Quoted false → attr_byte used b s ≡ Err (2 + new_len used s)
   unfolding attr_byte attr_of
   attr-unquoted e h g = rw (e, attr_byte) (rw (h, g, attr_of))
 
-  pub attr-stops : (k : ℕ) → Begins → Named true → Quoted true → value_at s (new_len used s) ≡ Stop k → attr_byte used b s ≡ Off (3 + new_len used s + k)
+  pub attr-stops : (k : ℕ) → Begins → Named true → Quoted true → value_at s (new_len used s) ≡ Err k → attr_byte used b s ≡ Err (3 + new_len used s + k)
   unfolding attr_byte attr_of
   attr-stops k e h g i = rw (e, attr_byte) (rw (h, g, i, attr_of))
 
-  pub attr-goes : (k : ℕ) → Begins → Named true → Quoted true → value_at s (new_len used s) ≡ Upto k → attr_byte used b s ≡ On (3 + new_len used s + k) 0
+  pub attr-goes : (k : ℕ) → Begins → Named true → Quoted true → value_at s (new_len used s) ≡ Ok k → attr_byte used b s ≡ Ok (Some (3 + new_len used s + k, 0))
   unfolding attr_byte attr_of
   attr-goes k e h g i = rw (e, attr_byte) (rw (h, g, i, attr_of))
 
@@ -65,13 +61,13 @@ module _ (used : List Bytes) (b : ℕ) (s : Bytes) where
       at (eqb b (code " ") && fresh 32 used []) refl (is_new used (take (new_len used s) s) && eqb (get_or s (new_len used s) 0) (code "=")) refl
       (is_quote (get_or s (1 + new_len used s) 0)) refl (value_at s (new_len used s)) refl
     where
-      at : (x : Bool) → eqb b (code " ") && fresh 32 used [] ≡ x → (y : Bool) → Named y → (z : Bool) → Quoted z → (r : Run) → value_at s (new_len used s) ≡ r →
+      at : (x : Bool) → eqb b (code " ") && fresh 32 used [] ≡ x → (y : Bool) → Named y → (z : Bool) → Quoted z → (r : Result ℕ ℕ) → value_at s (new_len used s) ≡ r →
           AttrCase (attr_byte used b s)
       at false e y h z g r i = rw (attr-over e) (over e)
       at true e false h z g r i = rw (attr-unnamed e h) (unnamed e h)
       at true e true h false g r i = rw (attr-unquoted e h g) (unquoted e h g)
-      at true e true h true g (Stop k) i = rw (attr-stops k e h g i) (stops e h g i)
-      at true e true h true g (Upto k) i = rw (attr-goes k e h g i) (goes e h g i)
+      at true e true h true g (Err k) i = rw (attr-stops k e h g i) (stops e h g i)
+      at true e true h true g (Ok k) i = rw (attr-goes k e h g i) (goes e h g i)
 
   -- the bytes that it names stand in the text
   pub named_in : Named true → new_len used s < length s
@@ -81,10 +77,10 @@ pub quote-in : (s : Bytes) (i : ℕ) → is_quote (get_or s i 0) ≡ true → i 
 quote-in s i e = by-quote (λ (x : ℕ). get_or s i 0 ≡ x → i < length s) (get_or s i 0) e (λ h. in-range s i 33 h) (λ h. in-range s i 38 h) refl
 
 -- how far what a byte says reaches
-abbrev pub AttrReach : ℕ → Next → Type 0
-AttrReach m Over = 0 ≤ m
-AttrReach m (On k r) = k ≤ m
-AttrReach m (Off k) = (1 ≤ k) × (k ≤ 1 + m)
+abbrev pub AttrReach : ℕ → Result (Option (ℕ × ℕ)) ℕ → Type 0
+AttrReach m (Ok None) = 0 ≤ m
+AttrReach m (Ok (Some (k, r))) = k ≤ m
+AttrReach m (Err k) = (1 ≤ k) × (k ≤ 1 + m)
 
 pub attr-reach : (used : List Bytes) (b : ℕ) (s : Bytes) → AttrReach (length s) (attr_byte used b s)
 attr-reach used b s = at (attr_byte used b s) (attr-case used b s)
@@ -92,20 +88,20 @@ attr-reach used b s = at (attr_byte used b s) (attr-case used b s)
     fits : new_len used s ≤ length s
     fits = fresh_len-fits 32 used [] s
 
-    at : (o : Next) → AttrCase used b s o → AttrReach (length s) o
+    at : (o : Result (Option (ℕ × ℕ)) ℕ) → AttrCase used b s o → AttrReach (length s) o
     at o (over e) = omega arith
     at o (unnamed e h) = omega (arith, fits)
     at o (unquoted e h g) = omega (arith, named_in used b s h)
     at o (stops {k = k} e h g i) =
-        let r = subst (λ (x : Run). ValueIn (0 + 0) (0 + length (drop (2 + new_len used s) s)) x) i (value-range (get_or s (1 + new_len used s) 0) 0 0 (drop (2 + new_len used s) s) (omega arith)) in
+        let r = subst (λ (x : Result ℕ ℕ). ValueIn (0 + 0) (0 + length (drop (2 + new_len used s) s)) x) i (value-range (get_or s (1 + new_len used s) 0) 0 0 (drop (2 + new_len used s) s) (omega arith)) in
         omega (arith, quote-in s (1 + new_len used s) g, length-drop (2 + new_len used s) s)
     at o (goes {k = k} e h g i) =
-        let r = subst (λ (x : Run). ValueIn (0 + 0) (0 + length (drop (2 + new_len used s) s)) x) i (value-range (get_or s (1 + new_len used s) 0) 0 0 (drop (2 + new_len used s) s) (omega arith)) in
+        let r = subst (λ (x : Result ℕ ℕ). ValueIn (0 + 0) (0 + length (drop (2 + new_len used s) s)) x) i (value-range (get_or s (1 + new_len used s) 0) 0 0 (drop (2 + new_len used s) s) (omega arith)) in
         omega (arith, quote-in s (1 + new_len used s) g, length-drop (2 + new_len used s) s)
 
 -- ---- attributes one after another
-abbrev pub attr_turn : List Bytes → ℕ → Bytes → Next → Run
-attr_turn used n s o = elim o [ Over ↦ Upto n | On k r ↦ attrs (take (new_len used s) s ∷ used) k (n + 1) s | Off k ↦ Stop (n + k) ]
+abbrev pub attr_turn : List Bytes → ℕ → Bytes → Result (Option (ℕ × ℕ)) ℕ → Result ℕ ℕ
+attr_turn used n s o = elim o [ Ok None ↦ Ok n | Ok (Some (k, r)) ↦ attrs (take (new_len used s) s ∷ used) k (n + 1) s | Err k ↦ Err (n + k) ]
 
 pub attrs-cons : (used : List Bytes) (n b : ℕ) (s : Bytes) → attrs used 0 n (b ∷ s) ≡ attr_turn used n s (attr_byte used b s)
 unfolding attrs
@@ -123,12 +119,12 @@ attrs-range used k n [] h = omega arith
 attrs-range used (suc k) n (b ∷ s) h = let r = attrs-range used k (n + 1) s (le_of_suc-le-suc h) in omega arith
 attrs-range used zero n (b ∷ s) h = turn (attr_byte used b s) (attr-reach used b s) (λ k g. attrs-range (take (new_len used s) s ∷ used) k (n + 1) s g)
   where
-    turn : (o : Next) → AttrReach (length s) o →
+    turn : (o : Result (Option (ℕ × ℕ)) ℕ) → AttrReach (length s) o →
         ((k : ℕ) → k ≤ length s → (n + 1 + k ≤ place (attrs (take (new_len used s) s ∷ used) k (n + 1) s)) × (place (attrs (take (new_len used s) s ∷ used) k (n + 1) s) ≤ n + 1 + length s)) →
         (n + 0 ≤ place (attr_turn used n s o)) × (place (attr_turn used n s o) ≤ n + suc (length s))
-    turn Over g f = omega arith
-    turn (On k r) g f = let x = f k g in omega arith
-    turn (Off k) g f = omega arith
+    turn (Ok None) g f = omega arith
+    turn (Ok (Some (k, r))) g f = let x = f k g in omega arith
+    turn (Err k) g f = omega arith
 
 -- ---- attributes are scanned
 pub equals-name : is_name_byte (code "=") ≡ false
@@ -165,13 +161,13 @@ module _ (used : List Bytes) (n : Bytes) {s v : Bytes} (q : ℕ) (w : Bytes) (ne
       add : (x y : ℕ) → x ≡ y → 2 + x ≡ y + 2
       add x y e = omega arith
 
-  pub one-goes : attr_byte used (code " ") S ≡ On (3 + new_len used S + length s) 0
+  pub one-goes : attr_byte used (code " ") S ≡ Ok (Some (3 + new_len used S + length s, 0))
   one-goes =
       attr-goes used (code " ") S (length s)
       (both (eq-eqb (code " ") (code " ") refl) (fresh-complete n 32 used [] new (name-short n (new-name used n new))))
       (both (ap (is_new used) one_name ∙ new) (eq-eqb _ (code "=") (ap (λ (x : ℕ). get_or S x 0) one-len ∙ get_or-append_seam n (code "=") (q ∷ (s ++ q ∷ w)) 0)))
       (ap is_quote one-quote ∙ quote)
-      (ap₂ (λ (x : ℕ) (y : Bytes). value x 0 0 y) one-quote one-rest ∙ value-all q 0 w quote means within ∙ ap Upto (zero-plus (length s)))
+      (ap₂ (λ (x : ℕ) (y : Bytes). value x 0 0 y) one-quote one-rest ∙ value-all q 0 w quote means within ∙ ap Ok (zero-plus (length s)))
     where
       zero-plus : (x : ℕ) → 0 + x ≡ x
       zero-plus x = omega arith
@@ -209,12 +205,12 @@ more-long n s u q =
       length-append u [],
     )
 
-pub attrs-all : {used : List Bytes} {u : Bytes} {l : List Attr} (at c : ℕ) (t : Bytes) → Attributes used u l → (c ≡ code " " → ⊥) → attrs used 0 at (u ++ c ∷ t) ≡ Upto (at + length u)
+pub attrs-all : {used : List Bytes} {u : Bytes} {l : List Attr} (at c : ℕ) (t : Bytes) → Attributes used u l → (c ≡ code " " → ⊥) → attrs used 0 at (u ++ c ∷ t) ≡ Ok (at + length u)
 attrs-all {used} at c t none d =
-    attrs-cons used at c t ∙ ap (attr_turn used at t) (attr-over used c t (rw (ne_eqb c (code " ") d))) ∙ ap Upto (sym (add-zero at))
+    attrs-cons used at c t ∙ ap (attr_turn used at t) (attr-over used c t (rw (ne_eqb c (code " ") d))) ∙ ap Ok (sym (add-zero at))
 attrs-all {used} at c t (more {n = n} {s = s} {u = u} q new quote means within r) d =
     let m : at + (4 + length n + length s) + length u ≡ at + length (bytes " " ++ n ++ bytes "=" ++ (q ∷ s) ++ (q ∷ u)) = omega (arith, more-long n s u q) in
-    ap (attrs used 0 at) (more-text n s u (c ∷ t) q) ∙ one-step used n q (u ++ c ∷ t) new quote means within at ∙ attrs-all (at + (4 + length n + length s)) c t r d ∙ ap Upto m
+    ap (attrs used 0 at) (more-text n s u (c ∷ t) q) ∙ one-step used n q (u ++ c ∷ t) new quote means within at ∙ attrs-all (at + (4 + length n + length s)) c t r d ∙ ap Ok m
 
 -- ---- what is scanned is attributes
 pub record Tagged (used : List Bytes) (n m : ℕ) (s : Bytes) : Type 0 where
@@ -248,7 +244,7 @@ pub record Stands (used : List Bytes) (b : ℕ) (s : Bytes) (k : ℕ) : Type 0 w
   pub after : drop k s ≡ rest
   pub long : k ≡ 3 + new_len used s + length raw
 
-pub attr-stands : (used : List Bytes) (b : ℕ) (s : Bytes) (k : ℕ) → Begins used b s → Named used b s true → Quoted used b s true → value_at s (new_len used s) ≡ Upto k → Stands used b s (3 + new_len used s + k)
+pub attr-stands : (used : List Bytes) (b : ℕ) (s : Bytes) (k : ℕ) → Begins used b s → Named used b s true → Quoted used b s true → value_at s (new_len used s) ≡ Ok k → Stands used b s (3 + new_len used s + k)
 attr-stands used b s k x z w v =
     let M = new_len used s in
     let q : ℕ = get_or s (1 + M) 0 in
@@ -271,7 +267,7 @@ attr-stands used b s k x z w v =
       long = omega arith;
     }
 
-pub attrs-sound : (s : Bytes) (used : List Bytes) (k n m : ℕ) → k ≤ length s → attrs used k n s ≡ Upto m → Tagged used (n + k) m (drop k s)
+pub attrs-sound : (s : Bytes) (used : List Bytes) (k n m : ℕ) → k ≤ length s → attrs used k n s ≡ Ok m → Tagged used (n + k) m (drop k s)
 unfolding attrs
 attrs-sound [] used zero n m l e =
     let i : n ≡ m = cc in
@@ -284,12 +280,12 @@ attrs-sound (b ∷ s) used zero n m l e =
     subst (λ (x : ℕ). Tagged used x m (b ∷ s)) (sym (add-zero n))
     (turn (attr_byte used b s) (attr-case used b s) (attr-reach used b s) (λ k g f. attrs-sound s (take (new_len used s) s ∷ used) k (n + 1) m g f) e)
   where
-    apart : {A : Type 0} (x : ℕ) → Stop x ≡ Upto m → A
+    apart : {A : Type 0} (x : ℕ) → Err x ≡ Ok m → A
     apart x h = let z : ◌≡◌ {A = ℕ} 0 1 = cc in absurd (omega arith)
 
-    turn : (o : Next) → AttrCase used b s o → AttrReach (length s) o →
-        ((k : ℕ) → k ≤ length s → attrs (take (new_len used s) s ∷ used) k (n + 1) s ≡ Upto m → Tagged (take (new_len used s) s ∷ used) (n + 1 + k) m (drop k s)) →
-        attr_turn used n s o ≡ Upto m → Tagged used n m (b ∷ s)
+    turn : (o : Result (Option (ℕ × ℕ)) ℕ) → AttrCase used b s o → AttrReach (length s) o →
+        ((k : ℕ) → k ≤ length s → attrs (take (new_len used s) s ∷ used) k (n + 1) s ≡ Ok m → Tagged (take (new_len used s) s ∷ used) (n + 1 + k) m (drop k s)) →
+        attr_turn used n s o ≡ Ok m → Tagged used n m (b ∷ s)
     turn o (over x) y f g =
         let i : n ≡ m = cc in
         record { raw = []; rest = b ∷ s; list = []; is = refl; long = omega arith; spells = none }

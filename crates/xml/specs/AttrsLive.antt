@@ -3,7 +3,7 @@ use Prim.Native.Nat.{ℕ, zero, suc, ◌+◌, ◌-◌, ◌≤◌, ◌<◌}
 use Prim.Native.Char.{code}
 use Rattle.std.proofs.Common.{not-suc-le-zero, le_of_suc-le-suc, ◌∙◌, eqb-true, length-append, take-add}
 use native.Mathlib.Omega.{arith}
-use Rattle.std.specs.Prelude.{◌≡◌, Bool, true, false, ◌&&◌, ◌||◌, eqb, drop}
+use Rattle.std.specs.Prelude.{◌≡◌, Bool, true, false, ◌&&◌, ◌||◌, eqb, drop, Result, Ok, Err, Option}
 use Rattle.std.proofs.Math.Path.{refl, ap, ap₂, sym, subst}
 use mathlib.Core.List.{List, [], ◌∷◌, ◌++◌, append_assoc, append-nil}
 use Rattle.std.proofs.lemmas.Bool.{eqb-false}
@@ -11,8 +11,7 @@ use Rattle.std.proofs.Math.ListN.{length, take, get_or}
 use Rattle.std.proofs.Math.Seq.{take-append_seam, take-suc, drop-append_seam}
 use Rattle.xml.specs.Bytes.{Bytes, bytes, all, same, is_character}
 use Rattle.xml.specs.Tags.{Attr, attr, tag_text, is_quote, in_value, is_new, fresh, new_len, tags_compute}
-use Rattle.xml.specs.Grammar.{Characters, kept, entity, Attributes, none, more, StartTag, attributed}
-use Rattle.xml.specs.Grammar.{none as no-characters}
+use Rattle.xml.specs.Grammar.{Characters, kept, entity, Attributes, none, more, StartTag, attributed, none as no-characters}
 use Rattle.xml.specs.Read.{name_len, value_byte, value, attr_byte, attrs, tag_len}
 use Rattle.xml.specs.Truth.{by-test, both, both_true, both_false}
 use Rattle.xml.specs.TextLaws.{place}
@@ -20,19 +19,14 @@ use Rattle.xml.specs.Words.{Signed, signed}
 use Rattle.xml.specs.Names.{name-taken}
 use Rattle.xml.specs.Fresh.{fresh_len-grows}
 use Rattle.xml.specs.Values.{ValueCase, over, hit, miss, plain, off, value-case, value_turn, ValueIn, value-range, value-sound, no_return, found-fits, all_append, entity-in}
-use Rattle.xml.specs.Attrs.{more-text, AttrCase, unnamed, unquoted, stops, goes, attr-case, attr-reach, AttrReach, attr_turn, attrs-range, quote-in, named_in}
-use Rattle.xml.specs.Attrs.{over as no-attr}
+use Rattle.xml.specs.Attrs.{more-text, AttrCase, unnamed, unquoted, stops, goes, attr-case, attr-reach, AttrReach, attr_turn, attrs-range, quote-in, named_in, over as no-attr}
 use Rattle.xml.specs.TagLaws.{tag-short, tag-long}
 use Rattle.xml.specs.LiveText.{Word, entity-live, completed}
-use Rattle.xml.specs.declared.Found.TheVariants.{Hit}
-use Rattle.xml.specs.declared.Next.{Next}
-use Rattle.xml.specs.declared.Run.{Run}
-use Rattle.xml.specs.declared.Run.TheVariants.{Upto, Stop}
 
-run-apart : {A : Type 0} (m p : ℕ) → Upto m ≡ Stop p → A
+run-apart : {A : Type 0} (m p : ℕ) → ◌≡◌ {A = Result ℕ ℕ} (Ok m) (Err p) → A
 run-apart m p e = let z : ◌≡◌ {A = ℕ} 0 1 = cc in absurd (omega arith)
 
-stop_is : (m p : ℕ) → Stop m ≡ Stop p → m ≡ p
+stop_is : (m p : ℕ) → ◌≡◌ {A = Result ℕ ℕ} (Err m) (Err p) → m ≡ p
 stop_is m p e = cc
 
 -- ---- a value that was begun
@@ -87,7 +81,7 @@ live-kept q b n x s e l v =
     let c = both_true (is_character b) (in_value q b) e in
     rw l (record { add = v.add; meaning = b ∷ v.meaning; means = kept c.0 (no_return q b c.1) v.means; within = both c.1 v.within })
 
-value-live : (s : Bytes) (q k n p : ℕ) → is_quote q ≡ true → k ≤ length s → value q k n s ≡ Stop p → ValueLive q (take (p - (n + k)) (drop k s))
+value-live : (s : Bytes) (q k n p : ℕ) → is_quote q ≡ true → k ≤ length s → value q k n s ≡ Err p → ValueLive q (take (p - (n + k)) (drop k s))
 unfolding value
 value-live [] q zero n p h l e =
     let i : n ≡ p = stop_is n p e in
@@ -99,28 +93,28 @@ value-live (b ∷ s) q (suc k) n p h l e =
     subst (λ (x : ℕ). ValueLive q (take (p - x) (drop k s))) i (value-live s q k (n + 1) p h (le_of_suc-le-suc l) e)
 value-live (b ∷ s) q zero n p h l e = turn (value_byte q b s) (value-case q b s) (λ k g f. value-live s q k (n + 1) p h g f) e
   where
-    turn : (o : Next) → ValueCase q b s o → ((k : ℕ) → k ≤ length s → value q k (n + 1) s ≡ Stop p → ValueLive q (take (p - (n + 1 + k)) (drop k s))) →
-        value_turn q n s o ≡ Stop p → ValueLive q (take (p - (n + 0)) (b ∷ s))
+    turn : (o : Result (Option (ℕ × ℕ)) ℕ) → ValueCase q b s o → ((k : ℕ) → k ≤ length s → value q k (n + 1) s ≡ Err p → ValueLive q (take (p - (n + 1 + k)) (drop k s))) →
+        value_turn q n s o ≡ Err p → ValueLive q (take (p - (n + 0)) (b ∷ s))
     turn o (over x) f g = run-apart n p g
     turn o (hit {k = k} {c = c} x y z) f g =
-        let i : k ≤ length s = found-fits s (Hit k c) z in
-        let r : n + 1 + k ≤ p = subst (λ (v : Run). n + 1 + k ≤ place v) g (ge (value q k (n + 1) s) (value-range q k (n + 1) s i)) in
+        let i : k ≤ length s = found-fits s (Ok (k, c)) z in
+        let r : n + 1 + k ≤ p = subst (λ (v : Result ℕ ℕ). n + 1 + k ≤ place v) g (ge (value q k (n + 1) s) (value-range q k (n + 1) s i)) in
         live-entity q k c (p - (n + 1 + k)) (p - (n + 0)) b s h y (signed s k c z) (omega arith) (f k i g)
       where
-        ge : (v : Run) → ValueIn (n + 1 + k) (n + 1 + length s) v → n + 1 + k ≤ place v
-        ge (Upto m) i = i.0
-        ge (Stop m) i = i.0
+        ge : (v : Result ℕ ℕ) → ValueIn (n + 1 + k) (n + 1 + length s) v → n + 1 + k ≤ place v
+        ge (Ok m) i = i.0
+        ge (Err m) i = i.0
     turn o (miss {k = k} x y z) f g =
         let i : n + (1 + k) ≡ p = stop_is (n + (1 + k)) p g in
         let j : p - (n + 0) ≡ suc k = omega arith in
         rw j (live-word q k b s h y (entity-live s k z))
     turn o (plain x y z) f g =
-        let r : n + 1 + 0 ≤ p = subst (λ (v : Run). n + 1 + 0 ≤ place v) g (ge (value q 0 (n + 1) s) (value-range q 0 (n + 1) s (omega arith))) in
+        let r : n + 1 + 0 ≤ p = subst (λ (v : Result ℕ ℕ). n + 1 + 0 ≤ place v) g (ge (value q 0 (n + 1) s) (value-range q 0 (n + 1) s (omega arith))) in
         live-kept q b (p - (n + 0)) (p - (n + 1 + 0)) s z (omega arith) (f 0 (omega arith) g)
       where
-        ge : (v : Run) → ValueIn (n + 1 + 0) (n + 1 + length s) v → n + 1 + 0 ≤ place v
-        ge (Upto m) i = i.0
-        ge (Stop m) i = i.0
+        ge : (v : Result ℕ ℕ) → ValueIn (n + 1 + 0) (n + 1 + length s) v → n + 1 + 0 ≤ place v
+        ge (Ok m) i = i.0
+        ge (Err m) i = i.0
     turn o (off x y z) f g =
         let i : n + 0 ≡ p = stop_is (n + 0) p g in
         let j : p - (n + 0) ≡ 0 = omega arith in
@@ -187,7 +181,7 @@ module _ (used : List Bytes) (b : ℕ) (s : Bytes) (space : b ≡ code " ") wher
         }
 
     -- one that is whole, before others
-    live-after : (k x n : ℕ) → value (get_or s (1 + M) 0) 0 0 (drop (2 + M) s) ≡ Upto k → n ≡ suc (3 + M + k + x) → AttrsLive (take M s ∷ used) (take x (drop (3 + M + k) s)) →
+    live-after : (k x n : ℕ) → value (get_or s (1 + M) 0) 0 0 (drop (2 + M) s) ≡ Ok k → n ≡ suc (3 + M + k + x) → AttrsLive (take M s ∷ used) (take x (drop (3 + M + k) s)) →
         AttrsLive used (take n (b ∷ s))
     unfolding bytes
     live-after k x n e l v =
@@ -210,7 +204,7 @@ module _ (used : List Bytes) (b : ℕ) (s : Bytes) (space : b ≡ code " ") wher
               (more c new quote r.means r.within v.spells);
         }
 
-attrs-live : (s : Bytes) (used : List Bytes) (k n p : ℕ) → k ≤ length s → attrs used k n s ≡ Stop p → AttrsLive used (take (p - (n + k)) (drop k s))
+attrs-live : (s : Bytes) (used : List Bytes) (k n p : ℕ) → k ≤ length s → attrs used k n s ≡ Err p → AttrsLive used (take (p - (n + k)) (drop k s))
 unfolding attrs
 attrs-live [] used k n p l e = run-apart n p e
 attrs-live (b ∷ s) used (suc k) n p l e =
@@ -222,9 +216,9 @@ attrs-live (b ∷ s) used zero n p l e =
     spaced : eqb b (code " ") && fresh 32 used [] ≡ true → b ≡ code " "
     spaced x = eqb-true b (code " ") (both_true (eqb b (code " ")) (fresh 32 used []) x).0
 
-    turn : (o : Next) → AttrCase used b s o → AttrReach (length s) o →
-        ((k : ℕ) → k ≤ length s → attrs (take (new_len used s) s ∷ used) k (n + 1) s ≡ Stop p → AttrsLive (take (new_len used s) s ∷ used) (take (p - (n + 1 + k)) (drop k s))) →
-        attr_turn used n s o ≡ Stop p → AttrsLive used (take (p - (n + 0)) (b ∷ s))
+    turn : (o : Result (Option (ℕ × ℕ)) ℕ) → AttrCase used b s o → AttrReach (length s) o →
+        ((k : ℕ) → k ≤ length s → attrs (take (new_len used s) s ∷ used) k (n + 1) s ≡ Err p → AttrsLive (take (new_len used s) s ∷ used) (take (p - (n + 1 + k)) (drop k s))) →
+        attr_turn used n s o ≡ Err p → AttrsLive used (take (p - (n + 0)) (b ∷ s))
     turn o (no-attr x) r f g = run-apart n p g
     turn o (unnamed x y) r f g =
         let i = stop_is (n + (1 + new_len used s)) p g in
@@ -247,7 +241,7 @@ attrs-live (b ∷ s) used zero n p l e =
         (value-live (drop (2 + new_len used s) s) (get_or s (1 + new_len used s) 0) 0 0 k z (omega arith) v)))
     turn o (goes {k = k} x y z v) r f g =
         let K : ℕ = 3 + new_len used s + k in
-        let i = subst (λ (h : Run). n + 1 + K ≤ place h) g (attrs-range (take (new_len used s) s ∷ used) K (n + 1) s r).0 in
+        let i = subst (λ (h : Result ℕ ℕ). n + 1 + K ≤ place h) g (attrs-range (take (new_len used s) s ∷ used) K (n + 1) s r).0 in
         let w = both_true (is_new used (take (new_len used s) s)) (eqb (get_or s (new_len used s) 0) (code "=")) y in
         live-after used b s (spaced x) (new_len used s) w.0 (eqb-true (get_or s (new_len used s) 0) (code "=") w.1) z k (p - (n + 1 + K)) (p - (n + 0)) v (omega arith) (f K r g)
 
@@ -258,17 +252,17 @@ pub record TagLive (a : Bool) (w : Bytes) : Type 0 where
   pub tag : Bytes
   pub start : StartTag a (w ++ add) name tag
 
-pub tag_len-live : (a : Bool) (s : Bytes) (k : ℕ) → tag_len a s ≡ Stop k → TagLive a (take k s)
+pub tag_len-live : (a : Bool) (s : Bytes) (k : ℕ) → tag_len a s ≡ Err k → TagLive a (take k s)
 tag_len-live a s k e =
     by-test (eqb (name_len s) 0 || a && same (take (name_len s) s) (bytes "T")) (λ x. run-apart (name_len s) k (sym (tag-short a s (name_len s) x) ∙ e))
     (λ x. long x (sym (tag-long a s (name_len s) x) ∙ e))
   where
-    long : eqb (name_len s) 0 || a && same (take (name_len s) s) (bytes "T") ≡ false → attrs [] 0 (name_len s) (drop (name_len s) s) ≡ Stop k → TagLive a (take k s)
+    long : eqb (name_len s) 0 || a && same (take (name_len s) s) (bytes "T") ≡ false → attrs [] 0 (name_len s) (drop (name_len s) s) ≡ Err k → TagLive a (take k s)
     long x h =
         let n : ℕ = name_len s in
         let y = both_false (eqb (name_len s) 0) (a && same (take (name_len s) s) (bytes "T")) x in
         let v = attrs-live (drop n s) [] 0 n k (omega arith) h in
-        let l = subst (λ (r : Run). n + 0 ≤ place r) h (attrs-range [] 0 n (drop n s) (omega arith)).0 in
+        let l = subst (λ (r : Result ℕ ℕ). n + 0 ≤ place r) h (attrs-range [] 0 n (drop n s) (omega arith)).0 in
         let j : k ≡ n + (k - (n + 0)) = omega arith in
         let i : take k s ≡ take n s ++ take (k - (n + 0)) (drop n s) = ap (λ (z : ℕ). take z s) j ∙ take-add n (k - (n + 0)) s in
         record {

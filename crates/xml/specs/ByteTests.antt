@@ -1,17 +1,17 @@
 -- Bytes told by comparisons: which of the five tests of a class say white space and names, and the bytes of a text that stand for themselves.
-use Rattle.std.specs.Prelude.{ℕ, ◌<◌, ◌≤◌, ◌≡◌, refl, Bool, true, false, ◌&&◌, ◌||◌, leb}
+use Rattle.std.specs.Prelude.{ℕ, ◌<◌, ◌≤◌, ◌≡◌, refl, Bool, true, false, ◌&&◌, ◌||◌, leb, Ok, Some}
 use Prim.Native.Char.{code}
 use Rattle.std.proofs.Common.{arith, sym, ◌∙◌}
 use Rattle.std.proofs.Math.Path.{ap}
 use Rattle.std.proofs.Math.Bool.{not}
 use borrow.Author.Tests.{ne_eqb, le-leb, lt-leb, eqb-true, leb-true, leb-false}
 use Rattle.std.proofs.Math.Dec.{eqb}
-use Rattle.xml.specs.Bytes.{Bytes, bytes, any, illegal, white, start, other, markup, plain, class_of, among, within, is_letter, is_digit, is_white, is_legal, is_start, is_name_byte, bytes_compute}
+use Rattle.xml.specs.Bytes.{Bytes, bytes, any, class_of, among, within, is_letter, is_digit, is_white, is_legal, is_start, is_name_byte, bytes_compute}
+use Rattle.xml.specs.declared.class.ByteClass.TheVariants.{Illegal, White, Start, Other, Markup, Plain}
 use Rattle.xml.specs.Truth.{by-test, clash, and_left, and_right, or-first, or-second, neither}
 use Rattle.xml.specs.GrammarLaws.{class_by}
 use Rattle.xml.specs.Read.{text_byte}
 use Rattle.xml.specs.TextLaws.{byte-other}
-use Rattle.xml.specs.declared.Next.TheVariants.{On}
 
 -- a byte after which a text goes on, whatever stands before it: white space, or 0x20 to 0x7E and none of `<`, `&`, `]`, `>`
 unfoldable pub is_plain : ℕ → Bool
@@ -19,7 +19,7 @@ is_plain b = (among "\t\n\r " b || within 0x20 0x7E b) && not (among "<&]>" b)
 
 -- ---- what the five tests of a class say of a byte
 white-by : (w n d m p : Bool) →
-    elim (class_by w n d m p) [ illegal ↦ false | white ↦ true | start ↦ false | other ↦ false | markup ↦ false | plain ↦ false ] ≡ w
+    elim (class_by w n d m p) [ Illegal ↦ false | White ↦ true | Start ↦ false | Other ↦ false | Markup ↦ false | Plain ↦ false ] ≡ w
 white-by true n d m p = refl
 white-by false true d m p = refl
 white-by false false true m p = refl
@@ -28,7 +28,7 @@ white-by false false false false true = refl
 white-by false false false false false = refl
 
 start-by : (w n d m p : Bool) → (w ≡ true → n ≡ false) →
-    elim (class_by w n d m p) [ illegal ↦ false | white ↦ false | start ↦ true | other ↦ false | markup ↦ false | plain ↦ false ] ≡ n
+    elim (class_by w n d m p) [ Illegal ↦ false | White ↦ false | Start ↦ true | Other ↦ false | Markup ↦ false | Plain ↦ false ] ≡ n
 start-by true n d m p h = sym (h refl)
 start-by false true d m p h = refl
 start-by false false true m p h = refl
@@ -37,7 +37,7 @@ start-by false false false false true h = refl
 start-by false false false false false h = refl
 
 name_by : (w n d m p : Bool) → (w ≡ true → (n || d) ≡ false) →
-    elim (class_by w n d m p) [ illegal ↦ false | white ↦ false | start ↦ true | other ↦ true | markup ↦ false | plain ↦ false ] ≡ (n || d)
+    elim (class_by w n d m p) [ Illegal ↦ false | White ↦ false | Start ↦ true | Other ↦ true | Markup ↦ false | Plain ↦ false ] ≡ (n || d)
 name_by true n d m p h = sym (h refl)
 name_by false true d m p h = refl
 name_by false false true m p h = refl
@@ -46,7 +46,7 @@ name_by false false false false true h = refl
 name_by false false false false false h = refl
 
 legal-by : (w n d m p : Bool) → (w || p) ≡ true →
-    elim (class_by w n d m p) [ illegal ↦ false | white ↦ true | start ↦ true | other ↦ true | markup ↦ true | plain ↦ true ] ≡ true
+    elim (class_by w n d m p) [ Illegal ↦ false | White ↦ true | Start ↦ true | Other ↦ true | Markup ↦ true | Plain ↦ true ] ≡ true
 legal-by true n d m p e = refl
 legal-by false true d m p e = refl
 legal-by false false true m p e = refl
@@ -155,7 +155,7 @@ module _ (b : ℕ) where
       ∙ special-by (eqb b (code "<")) (eqb b (code "&")) (eqb b (code "]")) (eqb b (code ">")) (among "\t\n\r " b || within 0x20 0x7E b)
 
 -- a text goes on after a plain byte
-pub plain-next : (q b : ℕ) (s : Bytes) → is_plain b ≡ true → text_byte q b s ≡ On 0 0
+pub plain-next : (q b : ℕ) (s : Bytes) → is_plain b ≡ true → text_byte q b s ≡ Ok (Some (0, 0))
 plain-next q b s e =
     byte-other q b s true (λ h. clash (sym e ∙ plain-lt b h)) (λ h. clash (sym e ∙ plain-amp b h)) (λ h. clash (sym e ∙ plain-bracket b h))
     (λ h. clash (sym e ∙ plain-greater b h)) (plain-legal b e)

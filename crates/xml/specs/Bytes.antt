@@ -4,6 +4,8 @@ use Prim.Native.Char.{code}
 use Prim.Native.String.{String}
 use Rattle.std.proofs.Math.Bool.{true, not}
 use mathlib.Core.List.{List, [], ◌∷◌, ◌++◌}
+use Rattle.xml.specs.declared.class.ByteClass.{ByteClass}
+use Rattle.xml.specs.declared.class.ByteClass.TheVariants.{Illegal, White, Start, Other, Markup, Plain}
 
 abbrev pub Bytes : Type 0
 Bytes = List ℕ
@@ -70,9 +72,6 @@ occurs p [] = starts p []
 occurs p (b ∷ s) = starts p (b ∷ s) || occurs p s
 
 -- ---- "Each byte has one class" (found in a table of 256 entries before Q-3, and by comparison since)
-pub data Class : Type 0 where
-  illegal white start other markup plain : Class
-
 unfoldable pub among : String → ℕ → Bool
 among s b = any (eqb b) (bytes s)
 
@@ -86,41 +85,41 @@ unfoldable pub is_digit : ℕ → Bool
 is_digit b = within (code "0") (code "9") b
 
 -- "illegal, white space, name start, other name byte, markup (`<`, `&`), other text"
-unfoldable pub class_of : ℕ → Class
+unfoldable pub class_of : ℕ → ByteClass
 class_of b =
     elim (among "\t\n\r " b) [
-      | true ↦ white
+      | true ↦ White
       | false ↦
           elim (is_letter b || eqb b (code "_")) [
-            | true ↦ start
+            | true ↦ Start
             | false ↦
                 elim (is_digit b || among ".-" b) [
-                  | true ↦ other
+                  | true ↦ Other
                   | false ↦
                       elim (among "<&" b) [
-                        | true ↦ markup
+                        | true ↦ Markup
                         | false ↦
-                            elim (within 0x20 0x7E b) [ true ↦ plain | false ↦ illegal ]
+                            elim (within 0x20 0x7E b) [ true ↦ Plain | false ↦ Illegal ]
                       ]
                 ]
           ]
     ]
 
 unfoldable pub is_white : ℕ → Bool
-is_white b = elim (class_of b) [ illegal ↦ false | white ↦ true | start ↦ false | other ↦ false | markup ↦ false | plain ↦ false ]
+is_white b = elim (class_of b) [ Illegal ↦ false | White ↦ true | Start ↦ false | Other ↦ false | Markup ↦ false | Plain ↦ false ]
 
 unfoldable pub is_legal : ℕ → Bool
-is_legal b = elim (class_of b) [ illegal ↦ false | white ↦ true | start ↦ true | other ↦ true | markup ↦ true | plain ↦ true ]
+is_legal b = elim (class_of b) [ Illegal ↦ false | White ↦ true | Start ↦ true | Other ↦ true | Markup ↦ true | Plain ↦ true ]
 
 -- a byte of text that stands for itself: legal and no markup
 unfoldable pub is_character : ℕ → Bool
-is_character b = elim (class_of b) [ illegal ↦ false | white ↦ true | start ↦ true | other ↦ true | markup ↦ false | plain ↦ true ]
+is_character b = elim (class_of b) [ Illegal ↦ false | White ↦ true | Start ↦ true | Other ↦ true | Markup ↦ false | Plain ↦ true ]
 
 unfoldable pub is_start : ℕ → Bool
-is_start b = elim (class_of b) [ illegal ↦ false | white ↦ false | start ↦ true | other ↦ false | markup ↦ false | plain ↦ false ]
+is_start b = elim (class_of b) [ Illegal ↦ false | White ↦ false | Start ↦ true | Other ↦ false | Markup ↦ false | Plain ↦ false ]
 
 unfoldable pub is_name_byte : ℕ → Bool
-is_name_byte b = elim (class_of b) [ illegal ↦ false | white ↦ false | start ↦ true | other ↦ true | markup ↦ false | plain ↦ false ]
+is_name_byte b = elim (class_of b) [ Illegal ↦ false | White ↦ false | Start ↦ true | Other ↦ true | Markup ↦ false | Plain ↦ false ]
 
 -- a byte that text may mean: legal, and no CR, which is read as LF
 unfoldable pub is_meant : ℕ → Bool

@@ -1,28 +1,35 @@
 -- What the panel's face answers, for every text, tape and output, and what it leaves in the output and on the tape. An answer is a pair: a number of
 -- document 01's table, and the value that goes with it.
-use Rattle.std.specs.Prelude.{ℕ, true, false, List, ltb, length, replicate}
+use Rattle.std.specs.Prelude.{ℕ, true, false, List, ltb, length, replicate, Result, Ok, Err}
 use Rattle.xml.specs.Bytes.{Bytes}
 use Rattle.xml.specs.Forest.{Forest, write}
 use Rattle.xml.specs.Over.{over}
 use Rattle.xml.specs.Read.{Outcome, whole, broken, read}
-use Rattle.xml.specs.declared.panel.Canon.{Canon}
-use Rattle.xml.specs.declared.panel.Canon.TheVariants.{Done, Long, Narrow, Wrong, Short}
+use Rattle.xml.specs.declared.ReadError.{ReadError}
+use Rattle.xml.specs.declared.ReadError.TheVariants.{Wrong as ReadWrong, Full}
+use Rattle.xml.specs.declared.panel.CanonError.{CanonError}
+use Rattle.xml.specs.declared.panel.CanonError.TheVariants.{Long, Narrow, Wrong, Short}
+
+-- why a text that was not read has no form
+abbrev pub canon_error : ReadError → CanonError
+canon_error (ReadWrong p) = Wrong p
+canon_error Full = Narrow
 
 -- the row of document 01's table that a case is: 0 success, 1 too few cells, 2 a text too long, 5 not in the XML subset, 14 an output too short
-unfoldable pub canon_number : Canon → ℕ
-canon_number (Done n) = 0
-canon_number Long = 2
-canon_number Narrow = 1
-canon_number (Wrong p) = 5
-canon_number Short = 14
+unfoldable pub canon_number : Result ℕ CanonError → ℕ
+canon_number (Ok n) = 0
+canon_number (Err Long) = 2
+canon_number (Err Narrow) = 1
+canon_number (Err (Wrong p)) = 5
+canon_number (Err Short) = 14
 
 -- the value that goes with it: the length of the form, or the place of the wrong byte
-unfoldable pub canon_value : Canon → ℕ
-canon_value (Done n) = n
-canon_value Long = 0
-canon_value Narrow = 0
-canon_value (Wrong p) = p
-canon_value Short = 0
+unfoldable pub canon_value : Result ℕ CanonError → ℕ
+canon_value (Ok n) = n
+canon_value (Err Long) = 0
+canon_value (Err Narrow) = 0
+canon_value (Err (Wrong p)) = p
+canon_value (Err Short) = 0
 
 -- a forest, and an output of so many bytes
 unfoldable pub form_of : Forest → ℕ → ℕ × ℕ

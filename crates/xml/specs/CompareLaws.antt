@@ -1,5 +1,5 @@
 -- Laws of the tests on runs of text: equal bytes, equal meaning, and white space, at places of a text.
-use Rattle.std.specs.Prelude.{ℕ, ◌+◌, ◌-◌, ◌<◌, ◌≤◌, ◌≡◌, refl, true, false, [], ◌∷◌, eqb, leb, length, get_or}
+use Rattle.std.specs.Prelude.{ℕ, ◌+◌, ◌-◌, ◌<◌, ◌≤◌, ◌≡◌, refl, true, false, [], ◌∷◌, eqb, leb, length, get_or, Result, Ok, Err}
 use Prim.Native.Char.{code}
 use Rattle.std.proofs.Common.{ap, sym, ◌∙◌, arith, eq-eqb, ne_eqb, eqb-true, leb-true, leb-false}
 use Rattle.std.proofs.lemmas.Bool.{eqb-false}
@@ -12,8 +12,6 @@ use Rattle.xml.specs.Words.{signed}
 use Rattle.xml.specs.Truth.{by-test, not_so}
 use Rattle.xml.specs.SignLaws.{Meant, sign-means, slice_first, unescape-hit, unescape-miss}
 use Rattle.xml.specs.GrammarLaws.{unescape-plain, unescape-joined, unescape-turned}
-use Rattle.xml.specs.declared.Found.{Found}
-use Rattle.xml.specs.declared.Found.TheVariants.{Hit, Miss}
 use Rattle.xml.specs.declared.text.Sign.{Sign}
 
 -- ---- equal bytes
@@ -115,9 +113,9 @@ unfolding unescape
 white-meant [] = refl
 white-meant (b ∷ s) = by-test (eqb b (code "&")) (λ t. let a = eqb-true b (code "&") t in found a (entity_at s) refl ∙ sym (all-black b s (amp-black b a))) (kept (white-meant s))
   where
-    found : b ≡ code "&" → (o : Found) → entity_at s ≡ o → all is_white (unescape 0 (b ∷ s)) ≡ false
-    found a (Hit n c) e = ap (all is_white) (unescape-hit b n c s a e) ∙ all-black c _ (entity-black (signed s n c e).entity)
-    found a (Miss n) e = ap (all is_white) (unescape-miss b n s a e) ∙ all-black b _ (amp-black b a)
+    found : b ≡ code "&" → (o : Result (ℕ × ℕ) ℕ) → entity_at s ≡ o → all is_white (unescape 0 (b ∷ s)) ≡ false
+    found a (Ok (n, c)) e = ap (all is_white) (unescape-hit b n c s a e) ∙ all-black c _ (entity-black (signed s n c e).entity)
+    found a (Err n) e = ap (all is_white) (unescape-miss b n s a e) ∙ all-black b _ (amp-black b a)
 
     kept : all is_white (unescape 0 s) ≡ all is_white s → eqb b (code "&") ≡ false → all is_white (unescape 0 (b ∷ s)) ≡ all is_white (b ∷ s)
     kept ih t = by-test (eqb b (code "\r")) (λ u. return ih (eqb-true b (code "\r") u)) (λ u. self ih t (eqb-false b (code "\r") u))

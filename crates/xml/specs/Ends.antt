@@ -3,7 +3,7 @@ use Prim.Native.Nat.{ℕ, zero, suc, ◌+◌, ◌-◌, ◌<◌, ◌≤◌}
 use Prim.Native.Char.{code}
 use Rattle.std.proofs.Math.Path.{◌≡◌, refl, ap, sym, subst}
 use Rattle.std.proofs.Common.{ap₂, ◌∙◌, arith}
-use Rattle.std.specs.Prelude.{Bool, false, get_or}
+use Rattle.std.specs.Prelude.{Bool, false, get_or, Result, Ok, Err}
 use mathlib.Core.List.{[], ◌∷◌, ◌++◌}
 use borrow.Author.Tests.{eqb-true, eqb-false, eq-eqb, ne_eqb}
 use Rattle.std.proofs.Math.Dec.{eqb, eqb-suc-suc}
@@ -17,8 +17,6 @@ use Rattle.xml.specs.SignLaws.{unescape-miss}
 use Rattle.xml.specs.GrammarLaws.{unescape-plain, unescape-joined, unescape-turned}
 use Rattle.xml.specs.Truth.{by-test, not_so}
 use Rattle.xml.specs.WriteLaws.{slice_snoc}
-use Rattle.xml.specs.declared.Found.{Found}
-use Rattle.xml.specs.declared.Found.TheVariants.{Hit, Miss}
 
 -- a text whose last byte is b
 abbrev Last : ℕ → Bytes → Type 0
@@ -32,22 +30,22 @@ abbrev is_whole : Bytes → Bytes → Bool
 is_whole w s = eqb (common w s) (length w)
 
 -- what is found, however much of a miss is right
-abbrev settled : Found → Found
-settled (Hit n c) = Hit n c
-settled (Miss m) = Miss 0
+abbrev settled : Result (ℕ × ℕ) ℕ → Result (ℕ × ℕ) ℕ
+settled (Ok (n, c)) = Ok (n, c)
+settled (Err m) = Err 0
 
-further-settled : (k : ℕ) (o : Found) → settled (further k o) ≡ settled o
+further-settled : (k : ℕ) (o : Result (ℕ × ℕ) ℕ) → settled (further k o) ≡ settled o
 unfolding further
-further-settled k (Hit n c) = refl
-further-settled k (Miss m) = refl
+further-settled k (Ok (n, c)) = refl
+further-settled k (Err m) = refl
 
-entity-nil : entity_at [] ≡ Miss 0
+entity-nil : entity_at [] ≡ Err 0
 unfolding bytes entity_at try common further
 entity-nil = refl
 
-settled-hit : (p : Found) (n c : ℕ) → settled p ≡ Hit n c → p ≡ Hit n c
-settled-hit (Hit j d) n c e = e
-settled-hit (Miss j) n c e = let z : ◌≡◌ {A = ℕ} 0 1 = cc in absurd (omega arith)
+settled-hit : (p : Result (ℕ × ℕ) ℕ) (n c : ℕ) → settled p ≡ Ok (n, c) → p ≡ Ok (n, c)
+settled-hit (Ok (j, d)) n c e = e
+settled-hit (Err j) n c e = let z : ◌≡◌ {A = ℕ} 0 1 = cc in absurd (omega arith)
 
 module _ (b : ℕ) (other : b ≡ code ";" → ⊥) where
   -- a word that ends in `;` is whole or not without the byte
@@ -65,7 +63,7 @@ module _ (b : ℕ) (other : b ≡ code ";" → ⊥) where
       (λ t. rw (common-cons x d w (s ++ b ∷ []) t, common-cons x d w s t) (eqb-suc-suc (common w (s ++ b ∷ [])) (length w) ∙ whole-last v s ∙ sym (eqb-suc-suc (common w s) (length w))))
       (λ t. rw (common-off x d w (s ++ b ∷ []) t, common-off x d w s t) refl)
 
-  try-last : (v : Bytes) (c : ℕ) (s : Bytes) (o p : Found) → settled p ≡ settled o →
+  try-last : (v : Bytes) (c : ℕ) (s : Bytes) (o p : Result (ℕ × ℕ) ℕ) → settled p ≡ settled o →
       settled (try (v ++ code ";" ∷ []) c (s ++ b ∷ []) p) ≡ settled (try (v ++ code ";" ∷ []) c s o)
   try-last v c s o p h =
       let w = v ++ code ";" ∷ [] in
@@ -80,18 +78,18 @@ module _ (b : ℕ) (other : b ≡ code ";" → ⊥) where
   unfolding bytes entity_at
   entity-last s =
       try-last (bytes "lt") (code "<") s _ _ (try-last (bytes "gt") (code ">") s _ _ (try-last (bytes "amp") (code "&") s _ _
-      (try-last (bytes "quot") (code "\"") s _ _ (try-last (bytes "apos") (code "'") s (Miss 0) (Miss 0) refl))))
+      (try-last (bytes "quot") (code "\"") s _ _ (try-last (bytes "apos") (code "'") s (Err 0) (Err 0) refl))))
 
   -- an `&`, by what is found after it without the byte and with it
-  amp-last : (d : ℕ) (s : Bytes) → d ≡ code "&" → (o p : Found) → entity_at s ≡ o → entity_at (s ++ b ∷ []) ≡ p → settled p ≡ settled o →
+  amp-last : (d : ℕ) (s : Bytes) → d ≡ code "&" → (o p : Result (ℕ × ℕ) ℕ) → entity_at s ≡ o → entity_at (s ++ b ∷ []) ≡ p → settled p ≡ settled o →
       ((k : ℕ) → k ≤ length s → Last b (unescape k (s ++ b ∷ []))) → Last b (unescape 0 (d ∷ (s ++ b ∷ [])))
   unfolding unescape
-  amp-last d s e (Hit n c) p x y h f =
-      let z : entity_at (s ++ b ∷ []) ≡ Hit n c = y ∙ settled-hit p n c h in
-      let l : n ≤ length s = subst (λ (o : Found). found_len o ≤ length s) x (entity-fits s) in
+  amp-last d s e (Ok (n, c)) p x y h f =
+      let z : entity_at (s ++ b ∷ []) ≡ Ok (n, c) = y ∙ settled-hit p n c h in
+      let l : n ≤ length s = subst (λ (o : Result (ℕ × ℕ) ℕ). found_len o ≤ length s) x (entity-fits s) in
       rw (eq-eqb d (code "&") e, z, unescape) (last_more c (f n l))
-  amp-last d s e (Miss m) (Hit n c) x y h f = let z : ◌≡◌ {A = ℕ} 0 1 = cc in absurd (omega arith)
-  amp-last d s e (Miss m) (Miss n) x y h f = rw (unescape-miss d n (s ++ b ∷ []) e y) (last_more d (f 0 (omega arith)))
+  amp-last d s e (Err m) (Ok (n, c)) x y h f = let z : ◌≡◌ {A = ℕ} 0 1 = cc in absurd (omega arith)
+  amp-last d s e (Err m) (Err n) x y h f = rw (unescape-miss d n (s ++ b ∷ []) e y) (last_more d (f 0 (omega arith)))
 
   -- the byte is meant last
   unescape-last : (b ≡ code "\r" → ⊥) → (k : ℕ) (s : Bytes) → k ≤ length s → Last b (unescape k (s ++ b ∷ []))

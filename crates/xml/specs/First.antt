@@ -1,13 +1,11 @@
 -- The place that `read` answers is that of the first wrong byte: whatever stands after it, the answer is the same.
-use Rattle.std.specs.Prelude.{◌≡◌, refl, Bool, true, false, ◌&&◌, [], ◌∷◌, ◌++◌, ℕ, zero, suc, ◌+◌, ◌-◌, ◌<◌, ◌≤◌, min, eqb, length, take, drop, get_or}
+use Rattle.std.specs.Prelude.{◌≡◌, refl, Bool, true, false, ◌&&◌, [], ◌∷◌, ◌++◌, ℕ, zero, suc, ◌+◌, ◌-◌, ◌<◌, ◌≤◌, min, eqb, length, take, drop, get_or, Result, Ok, Err}
 use Rattle.std.proofs.Common.{ap, sym, ◌∙◌, subst, zero-add, arith, eqb-true}
 use Prim.Native.Char.{code}
 use Rattle.std.proofs.lemmas.Bool.{eqb-false}
 use Rattle.xml.specs.Bytes.{Bytes, bytes, same, is_white}
 use Rattle.xml.specs.Forest.{Forest, end, elem, text, join}
 use Rattle.xml.specs.Read.{common, name_len, unescape, scan, Tag, named, tag_name, tag_node, Stack, outer, inside, Move, move, wrong, Outcome, whole, broken, is_end, start_of, start_tag, end_of, end_tag, characters, step, finish, go, read}
-use Rattle.xml.specs.declared.Run.{Run}
-use Rattle.xml.specs.declared.Run.TheVariants.{Upto, Stop}
 use Rattle.xml.specs.ScanLaws.{name_len-fits}
 use Rattle.xml.specs.StepLaws.{StartCase, none, opens, lone, slash, times, bad, start-case, tag-none, tag_open, tag-bad, tag-times, tag-slash, tag-empty, step-chars, chars-upto, chars-stop, step_start, step_end, out-white, out-other, out-second, out-start}
 use Rattle.xml.specs.Agree.{Agrees, more, agrees-take, agrees-drop, get_d-same, take_same, name_len-same, common-same, scan-same}
@@ -92,19 +90,19 @@ end_same o g st f m s s' ag h =
     let b = get_d-same m (common (tag_name o) s) s s' l ag in
     ap (end_of o g st f s') (common-same (tag_name o) m s s' l ag) ∙ rw (b, end_of)
 
-chars-same : (st : Stack) (f : Forest) (m : ℕ) (s s' : Bytes) → Agrees m s s' → (r : Run) → scan 0 0 0 s ≡ r → place r < m → characters st f s' ≡ characters st f s
-chars-same st f m s s' ag (Upto k) e h =
-    let g = scan-same m 0 0 0 s s' (omega arith) ag (subst (λ (x : ℕ). place (scan 0 0 0 s) < x) (sym (zero-add m)) (subst (λ (x : Run). place x < m) (sym e) h)) in
+chars-same : (st : Stack) (f : Forest) (m : ℕ) (s s' : Bytes) → Agrees m s s' → (r : Result ℕ ℕ) → scan 0 0 0 s ≡ r → place r < m → characters st f s' ≡ characters st f s
+chars-same st f m s s' ag (Ok k) e h =
+    let g = scan-same m 0 0 0 s s' (omega arith) ag (subst (λ (x : ℕ). place (scan 0 0 0 s) < x) (sym (zero-add m)) (subst (λ (x : Result ℕ ℕ). place x < m) (sym e) h)) in
     chars-upto st f s' k (g ∙ e)
     ∙ ap (λ (x : Bytes). move st (join f (text (unescape 0 x) end)) (k - 1)) (take_same m k s s' (omega arith) ag)
     ∙ sym (chars-upto st f s k e)
-chars-same st f m s s' ag (Stop k) e h =
-    let g = scan-same m 0 0 0 s s' (omega arith) ag (subst (λ (x : ℕ). place (scan 0 0 0 s) < x) (sym (zero-add m)) (subst (λ (x : Run). place x < m) (sym e) h)) in
+chars-same st f m s s' ag (Err k) e h =
+    let g = scan-same m 0 0 0 s s' (omega arith) ag (subst (λ (x : ℕ). place (scan 0 0 0 s) < x) (sym (zero-add m)) (subst (λ (x : Result ℕ ℕ). place x < m) (sym e) h)) in
     chars-stop st f s' k (g ∙ e) ∙ sym (chars-stop st f s k e)
 
-chars-place : (st : Stack) (f : Forest) (s : Bytes) (m : ℕ) (r : Run) → scan 0 0 0 s ≡ r → reach (characters st f s) < m → place r < m
-chars-place st f s m (Upto k) e h = let x = subst (λ (y : Move). reach y < m) (chars-upto st f s k e) h in omega arith
-chars-place st f s m (Stop k) e h = subst (λ (y : Move). reach y < m) (chars-stop st f s k e) h
+chars-place : (st : Stack) (f : Forest) (s : Bytes) (m : ℕ) (r : Result ℕ ℕ) → scan 0 0 0 s ≡ r → reach (characters st f s) < m → place r < m
+chars-place st f s m (Ok k) e h = let x = subst (λ (y : Move). reach y < m) (chars-upto st f s k e) h in omega arith
+chars-place st f s m (Err k) e h = subst (λ (y : Move). reach y < m) (chars-stop st f s k e) h
 
 pub tags-same : (a : Bool) (o : Tag) (g : Forest) (st : Stack) (f : Forest) (m b : ℕ) (s s' : Bytes) → b ≡ code "<" → Agrees m s s' →
     reach_t (step a (inside o g st) f (b ∷ s)) ≤ m → step a (inside o g st) f (b ∷ s') ≡ step a (inside o g st) f (b ∷ s)

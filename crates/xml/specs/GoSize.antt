@@ -1,14 +1,12 @@
 -- Reading never takes a node back: the forest of a text has all the nodes that were read on the way.
 use Prim.Native.Char.{code}
-use Rattle.std.specs.Prelude.{ℕ, zero, suc, ◌+◌, ◌≤◌, ◌≡◌, refl, Bool, [], ◌∷◌, eqb, length, take, drop, get_or}
+use Rattle.std.specs.Prelude.{ℕ, zero, suc, ◌+◌, ◌≤◌, ◌≡◌, refl, Bool, [], ◌∷◌, eqb, length, take, drop, get_or, Result, Ok, Err}
 use Rattle.std.proofs.Common.{sym, ◌∙◌, subst, arith, eqb-true}
 use Rattle.std.proofs.lemmas.Bool.{eqb-false}
 use Rattle.xml.specs.Bytes.{Bytes, bytes, is_white}
 use Rattle.xml.specs.Forest.{Forest, end, elem, text, join}
 use Rattle.xml.specs.Read.{common, name_len, times_len, scan, unescape, Tag, named, timed, tag_name, tag_node, Stack, outer, inside, Move, move, wrong, whole, broken, is_end, start_of, times_of, times_end, end_of, characters, step, finish, go}
 use Rattle.xml.specs.Tape.{size}
-use Rattle.xml.specs.declared.Run.{Run}
-use Rattle.xml.specs.declared.Run.TheVariants.{Upto, Stop}
 use Rattle.xml.specs.Truth.{by-test}
 use Rattle.xml.specs.StepLaws.{StartCase, none, opens, lone, slash, times, bad, start-case, tag-none, tag_open, tag-bad, tag-times, tag-slash, tag-empty, times-bad, times-good, times-end-bad, times-end-good, step-chars, chars-upto, chars-stop, end-good, end-bad, end_short, step_start, step_end, out-white, out-other, out-second, out-start, finish-outer, finish-done}
 use Rattle.xml.specs.Held.{stack_size, size-join, size-node}
@@ -67,9 +65,9 @@ end-grown o g st f s m =
     (λ y. subst (Grown (stack_size (inside o g st) f)) (sym (end-bad o g st f s m (eqb-true m (length (tag_name o)) x) (eqb-false (get_or s m 0) (code ">") y))) tt))
     (λ x. subst (Grown (stack_size (inside o g st) f)) (sym (end_short o g st f s m (eqb-false m (length (tag_name o)) x))) tt)
 
-chars-grown : (st : Stack) (f : Forest) (s : Bytes) (r : Run) → scan 0 0 0 s ≡ r → Grown (stack_size st f) (characters st f s)
-chars-grown st f s (Upto k) e = subst (Grown (stack_size st f)) (sym (chars-upto st f s k e)) (omega (arith, join-size st f (text (unescape 0 (take k s)) end)))
-chars-grown st f s (Stop k) e = subst (Grown (stack_size st f)) (sym (chars-stop st f s k e)) tt
+chars-grown : (st : Stack) (f : Forest) (s : Bytes) (r : Result ℕ ℕ) → scan 0 0 0 s ≡ r → Grown (stack_size st f) (characters st f s)
+chars-grown st f s (Ok k) e = subst (Grown (stack_size st f)) (sym (chars-upto st f s k e)) (omega (arith, join-size st f (text (unescape 0 (take k s)) end)))
+chars-grown st f s (Err k) e = subst (Grown (stack_size st f)) (sym (chars-stop st f s k e)) tt
 
 step-grown : (a : Bool) (st : Stack) (f : Forest) (b : ℕ) (s : Bytes) → Grown (stack_size st f) (step a st f (b ∷ s))
 step-grown a outer f b s =

@@ -1,5 +1,5 @@
 -- Reading goes over a tag, and over a run of text.
-use Rattle.std.specs.Prelude.{ℕ, suc, ◌+◌, ◌-◌, ◌≤◌, ◌≡◌, Bool, true, false, [], ◌∷◌, ◌++◌, length, take, drop, get_or}
+use Rattle.std.specs.Prelude.{ℕ, suc, ◌+◌, ◌-◌, ◌≤◌, ◌≡◌, Bool, true, false, [], ◌∷◌, ◌++◌, length, take, drop, get_or, Ok}
 use Prim.Native.Char.{code}
 use Rattle.std.proofs.Common.{zero-add, arith, ap, sym, ◌∙◌, length-append, get_or-append-add}
 use Rattle.std.proofs.Math.Path.{refl}
@@ -16,7 +16,6 @@ use Rattle.xml.specs.Names.{name-all, name-some, times-all}
 use Rattle.xml.specs.ScanLaws.{common-self}
 use Rattle.xml.specs.Runs.{scan-characters}
 use Rattle.xml.specs.StepLaws.{go-skip, go-cons, step-chars, chars-upto, tag_open, tag-empty, times-end-good, step_end, end-good, out-white}
-use Rattle.xml.specs.declared.Run.TheVariants.{Upto}
 
 -- reading comes from one state and text to another, wherever it is
 pub record Goes (a : Bool) (st : Stack) (f : Forest) (s : Bytes) (st' : Stack) (f' : Forest) (s' : Bytes) : Type 0 where
@@ -163,7 +162,7 @@ goes-text {w} {v} a o g st f u c e h =
     let k : ℕ = length w in
     let is : s ≡ i.first ∷ (i.more ++ code "<" ∷ u) = ap (λ (x : Bytes). x ++ code "<" ∷ u) i.is in
     let l : k ≡ suc (length i.more) = ap length i.is in
-    let n : scan 0 0 0 s ≡ Upto k = scan-characters 0 0 u c h ∙ ap Upto (zero-add k) in
+    let n : scan 0 0 0 s ≡ Ok k = scan-characters 0 0 u c h ∙ ap Ok (zero-add k) in
     let b : unescape 0 (take k s) ≡ v = ap (unescape 0) (take-append_seam w (code "<" ∷ u)) ∙ characters-mean c in
     let p : k - 1 ≡ length i.more = omega arith in
     let m : step a here f (i.first ∷ (i.more ++ code "<" ∷ u)) ≡ move here (join f (text v end)) (length i.more) =

@@ -3,7 +3,9 @@ use Rattle.std.specs.Prelude.{ℕ, ◌≡◌, refl, Bool, true, false, ◌||◌,
 use Prim.Native.Char.{code}
 use Rattle.std.proofs.Common.{ap, sym, ◌∙◌, ne_eqb, eq-eqb}
 use Rattle.std.proofs.lemmas.Bool.{eqb-false}
-use Rattle.xml.specs.Bytes.{Bytes, all, is_empty, Class, illegal, white, start, other, markup, plain, class_of, among, within, is_letter, is_digit, is_legal, is_character, is_meant, bytes_compute}
+use Rattle.xml.specs.Bytes.{Bytes, all, is_empty, class_of, among, within, is_letter, is_digit, is_legal, is_character, is_meant, bytes_compute}
+use Rattle.xml.specs.declared.class.ByteClass.{ByteClass}
+use Rattle.xml.specs.declared.class.ByteClass.TheVariants.{Illegal, White, Start, Other, Markup, Plain}
 use Rattle.xml.specs.Truth.{both, clash, neither}
 use Rattle.xml.specs.Grammar.{Entity, lt, gt, amp, quot, apos, Characters, none, kept, joined, turned, entity}
 use Rattle.xml.specs.Read.{unescape, read_compute}
@@ -24,25 +26,25 @@ pub character-legal : (b : ℕ) → is_character b ≡ true → is_legal b ≡ t
 unfolding is_character is_legal
 character-legal b e = at (class_of b) e
   where
-    at : (c : Class) → elim c [ illegal ↦ false | white ↦ true | start ↦ true | other ↦ true | markup ↦ false | plain ↦ true ] ≡ true →
-        elim c [ illegal ↦ false | white ↦ true | start ↦ true | other ↦ true | markup ↦ true | plain ↦ true ] ≡ true
-    at illegal e = e
-    at white e = e
-    at start e = e
-    at other e = e
-    at markup e = refl
-    at plain e = e
+    at : (c : ByteClass) → elim c [ Illegal ↦ false | White ↦ true | Start ↦ true | Other ↦ true | Markup ↦ false | Plain ↦ true ] ≡ true →
+        elim c [ Illegal ↦ false | White ↦ true | Start ↦ true | Other ↦ true | Markup ↦ true | Plain ↦ true ] ≡ true
+    at Illegal e = e
+    at White e = e
+    at Start e = e
+    at Other e = e
+    at Markup e = refl
+    at Plain e = e
 
-abbrev pub class_by : Bool → Bool → Bool → Bool → Bool → Class
+abbrev pub class_by : Bool → Bool → Bool → Bool → Bool → ByteClass
 class_by w n d m p =
     elim w [
-      | true ↦ white
-      | false ↦ elim n [ true ↦ start | false ↦ elim d [ true ↦ other | false ↦ elim m [ true ↦ markup | false ↦ elim p [ true ↦ plain | false ↦ illegal ] ] ] ]
+      | true ↦ White
+      | false ↦ elim n [ true ↦ Start | false ↦ elim d [ true ↦ Other | false ↦ elim m [ true ↦ Markup | false ↦ elim p [ true ↦ Plain | false ↦ Illegal ] ] ] ]
     ]
 
 class-legal : (w n d m p : Bool) → m ≡ false →
-    elim (class_by w n d m p) [ illegal ↦ false | white ↦ true | start ↦ true | other ↦ true | markup ↦ true | plain ↦ true ] ≡ true →
-    elim (class_by w n d m p) [ illegal ↦ false | white ↦ true | start ↦ true | other ↦ true | markup ↦ false | plain ↦ true ] ≡ true
+    elim (class_by w n d m p) [ Illegal ↦ false | White ↦ true | Start ↦ true | Other ↦ true | Markup ↦ true | Plain ↦ true ] ≡ true →
+    elim (class_by w n d m p) [ Illegal ↦ false | White ↦ true | Start ↦ true | Other ↦ true | Markup ↦ false | Plain ↦ true ] ≡ true
 class-legal true n d m p e l = refl
 class-legal false true d m p e l = refl
 class-legal false false true m p e l = refl

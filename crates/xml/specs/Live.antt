@@ -1,5 +1,5 @@
 -- The bytes before the wrong one can be completed: `read a s ≡ broken p` gives a t with `read a (take p s ++ t) ≡ whole f`.
-use Rattle.std.specs.Prelude.{◌≡◌, refl, Bool, true, false, [], ◌∷◌, ◌++◌, ◌⊎◌, ℕ, zero, suc, ◌+◌, ◌-◌, ◌≤◌, eqb, leb, length, take, get_or}
+use Rattle.std.specs.Prelude.{◌≡◌, refl, Bool, true, false, [], ◌∷◌, ◌++◌, ◌⊎◌, ℕ, zero, suc, ◌+◌, ◌-◌, ◌≤◌, eqb, leb, length, take, get_or, Result, Ok, Err}
 use Rattle.std.proofs.Common.{ap, sym, ◌∙◌, subst, append_assoc, inl, inr, ⊎_elim, zero-add, le_of_suc-le-suc, arith, eqb-true, leb-true, leb-false, length-append, length-take-le}
 use Prim.Native.Char.{code}
 use Rattle.std.proofs.lemmas.Bool.{eqb-false}
@@ -7,8 +7,6 @@ use Rattle.std.proofs.Math.Seq.{drop-append_seam}
 use Rattle.xml.specs.Bytes.{Bytes, is_white}
 use Rattle.xml.specs.Forest.{Forest, end, text, join}
 use Rattle.xml.specs.Read.{unescape, scan, Tag, tag_name, Stack, outer, inside, Move, move, wrong, whole, broken, is_end, step, go, read}
-use Rattle.xml.specs.declared.Run.{Run}
-use Rattle.xml.specs.declared.Run.TheVariants.{Upto, Stop}
 use Rattle.xml.specs.TextLaws.{RunIn, scan-first}
 use Rattle.xml.specs.StepLaws.{step-chars, chars-upto, chars-stop, step_start, step_end, out-white, out-other, out-second, out-start, go_on_lem}
 use Rattle.xml.specs.Agree.{Agrees, agrees-take}
@@ -21,7 +19,7 @@ use Rattle.xml.specs.LiveTags.{Alive, state-live, start-live, end_live}
 
 -- a run b ∷ v of text before what closes the rest
 run-closes : (a : Bool) (o : Tag) (g : Forest) (st : Stack) (f : Forest) (b : ℕ) (v : Bytes) → (b ≡ code "<" → ⊥) →
-    scan 0 0 0 ((b ∷ v) ++ close_all (inside o g st)) ≡ Upto (suc (length v)) → Closes a (inside o g st) f ((b ∷ v) ++ close_all (inside o g st))
+    scan 0 0 0 ((b ∷ v) ++ close_all (inside o g st)) ≡ Ok (suc (length v)) → Closes a (inside o g st) f ((b ∷ v) ++ close_all (inside o g st))
 run-closes a o g st f b v n e at =
     let here = inside o g st in
     let c = close_all here in
@@ -37,7 +35,7 @@ run-closes a o g st f b v n e at =
           ∙ ap (λ (x : Bytes). go a here f' (suc at + length v) 0 x) (drop-append_seam v c) ∙ y.1,
     )
 
-chars-live : (a : Bool) (o : Tag) (g : Forest) (st : Stack) (f : Forest) (b : ℕ) (s : Bytes) (j : ℕ) → (b ≡ code "<" → ⊥) → scan 0 0 0 (b ∷ s) ≡ Stop j →
+chars-live : (a : Bool) (o : Tag) (g : Forest) (st : Stack) (f : Forest) (b : ℕ) (s : Bytes) (j : ℕ) → (b ≡ code "<" → ⊥) → scan 0 0 0 (b ∷ s) ≡ Err j →
     Alive a (inside o g st) f (take j (b ∷ s))
 unfolding close_all
 chars-live a o g st f b s zero n e = state-live a (inside o g st) f
@@ -46,13 +44,13 @@ chars-live a o g st f b s (suc j) n e =
     let z : suc j - 0 ≡ suc j = omega arith in
     let c = close_all (inside o g st) in
     let v = take j s ++ x.add in
-    let ends : scan 0 0 0 ((b ∷ v) ++ c) ≡ Upto (0 + suc (length v)) =
-    subst (λ (m : ℕ). scan 0 0 0 ((take m (b ∷ s) ++ x.add) ++ c) ≡ Upto (0 + length (take m (b ∷ s) ++ x.add))) z (x.ends (code "/" ∷ (tag_name o ++ (code ">" ∷ close_all st))))
+    let ends : scan 0 0 0 ((b ∷ v) ++ c) ≡ Ok (0 + suc (length v)) =
+    subst (λ (m : ℕ). scan 0 0 0 ((take m (b ∷ s) ++ x.add) ++ c) ≡ Ok (0 + length (take m (b ∷ s) ++ x.add))) z (x.ends (code "/" ∷ (tag_name o ++ (code ">" ∷ close_all st))))
     in
     record {
       add = x.add ++ c;
       closes = subst (λ (l : Bytes). Closes a (inside o g st) f (b ∷ l)) (append_assoc (take j s) x.add c)
-          (run-closes a o g st f b v n (ends ∙ ap Upto (zero-add (suc (length v)))));
+          (run-closes a o g st f b v n (ends ∙ ap Ok (zero-add (suc (length v)))));
     }
 
 step-live : (a : Bool) (st : Stack) (f : Forest) (b : ℕ) (s : Bytes) (j : ℕ) → step a st f (b ∷ s) ≡ wrong j → Alive a st f (take j (b ∷ s))
@@ -76,11 +74,11 @@ step-live a (inside o g st) f b s j e = at (eqb b (code "<")) refl (eqb (get_or 
         let n = eqb-false b (code "<") p in
         run (scan 0 0 0 (b ∷ s)) refl
       where
-        run : (r : Run) → scan 0 0 0 (b ∷ s) ≡ r → Alive a (inside o g st) f (take j (b ∷ s))
-        run (Upto k) c = move-apart _ _ _ j (sym (step-chars a o g st f b s (eqb-false b (code "<") p) ∙ chars-upto (inside o g st) f (b ∷ s) k c) ∙ e)
-        run (Stop k) c =
+        run : (r : Result ℕ ℕ) → scan 0 0 0 (b ∷ s) ≡ r → Alive a (inside o g st) f (take j (b ∷ s))
+        run (Ok k) c = move-apart _ _ _ j (sym (step-chars a o g st f b s (eqb-false b (code "<") p) ∙ chars-upto (inside o g st) f (b ∷ s) k c) ∙ e)
+        run (Err k) c =
             let i = wrong-is k j (sym (step-chars a o g st f b s (eqb-false b (code "<") p) ∙ chars-stop (inside o g st) f (b ∷ s) k c) ∙ e) in
-            chars-live a o g st f b s j (eqb-false b (code "<") p) (c ∙ ap Stop i)
+            chars-live a o g st f b s j (eqb-false b (code "<") p) (c ∙ ap Err i)
     at true p false q =
         let i = eqb-true b (code "<") p in
         subst (λ (c : ℕ). Alive a (inside o g st) f (take j (c ∷ s))) (sym i)
@@ -128,20 +126,20 @@ again a (inside o g st) f b s st' f' k m e h l = at (eqb b (code "<")) refl (leb
         n : b ≡ code "<" → ⊥
         n = eqb-false b (code "<") x
 
-        run : (r : Run) → scan 0 0 0 (b ∷ s) ≡ r → Alive a (inside o g st) f (b ∷ take m s)
-        run (Stop j) c = move-apart st' f' k j (sym e ∙ step-chars a o g st f b s n ∙ chars-stop (inside o g st) f (b ∷ s) j c)
-        run (Upto j) c =
+        run : (r : Result ℕ ℕ) → scan 0 0 0 (b ∷ s) ≡ r → Alive a (inside o g st) f (b ∷ take m s)
+        run (Err j) c = move-apart st' f' k j (sym e ∙ step-chars a o g st f b s n ∙ chars-stop (inside o g st) f (b ∷ s) j c)
+        run (Ok j) c =
             let i : j - 1 ≡ k = move-count _ st' _ f' (j - 1) k (sym (step-chars a o g st f b s n ∙ chars-upto (inside o g st) f (b ∷ s) j c) ∙ e) in
-            let r = subst (λ (y : Run). RunIn 1 (1 + length s) y) c (scan-first b s n) in
+            let r = subst (λ (y : Result ℕ ℕ). RunIn 1 (1 + length s) y) c (scan-first b s n) in
             let over = leb-false (suc k) m q in
             let w : j - 0 ≡ suc m = omega arith in
             let u : length (take m s) ≡ m = length-take-le m s l in
             let v : j ≡ suc (length (take m s)) = omega arith in
-            let d : scan 0 0 0 ((b ∷ take m s) ++ close_all (inside o g st)) ≡ Upto j =
-            subst (λ (z : ℕ). scan 0 0 0 (take z (b ∷ s) ++ close_all (inside o g st)) ≡ Upto j) w
+            let d : scan 0 0 0 ((b ∷ take m s) ++ close_all (inside o g st)) ≡ Ok j =
+            subst (λ (z : ℕ). scan 0 0 0 (take z (b ∷ s) ++ close_all (inside o g st)) ≡ Ok j) w
             (scan-cut (b ∷ s) 0 0 0 j (omega arith) c (code "/" ∷ (tag_name o ++ (code ">" ∷ close_all st))))
             in
-            record { add = close_all (inside o g st); closes = run-closes a o g st f b (take m s) n (d ∙ ap Upto v) }
+            record { add = close_all (inside o g st); closes = run-closes a o g st f b (take m s) n (d ∙ ap Ok v) }
 
 -- the wrong byte stands in the text, or at its end
 go-le : (a : Bool) (s : Bytes) (st : Stack) (f : Forest) (at k p : ℕ) → go a st f at k s ≡ broken p → p ≤ at + length s

@@ -3,7 +3,9 @@ use Rattle.std.specs.Prelude.{ℕ, zero, suc, ◌+◌, ◌-◌, ◌≤◌, ◌<�
 use Prim.Native.Char.{code}
 use Rattle.std.proofs.Common.{not-suc-le-zero, le_of_suc-le-suc, arith, ap, sym, ◌∙◌, append-nil, ne_eqb, leb-true, leb-false, le-leb, length-append, length-take-le}
 use Rattle.std.proofs.lemmas.Bool.{lt-leb}
-use Rattle.xml.specs.Bytes.{Bytes, all, is_empty, is_start, is_name_byte, is_value, is_name, is_times, is_letter, is_digit, among, within, class_of, Class, illegal, white, start, other, markup, plain, bytes_compute}
+use Rattle.xml.specs.Bytes.{Bytes, all, is_empty, is_start, is_name_byte, is_value, is_name, is_times, is_letter, is_digit, among, within, class_of, bytes_compute}
+use Rattle.xml.specs.declared.class.ByteClass.{ByteClass}
+use Rattle.xml.specs.declared.class.ByteClass.TheVariants.{Illegal, White, Start, Other, Markup, Plain}
 use Rattle.xml.specs.GrammarLaws.{class_by}
 use Rattle.xml.specs.Read.{name_rest, name_len, times_len}
 use Rattle.xml.specs.Truth.{by-test, clash, both_true, both, neither}
@@ -29,14 +31,14 @@ start-name : (b : ℕ) → is_start b ≡ true → is_name_byte b ≡ true
 unfolding is_start is_name_byte
 start-name b e = at (class_of b) e
   where
-    at : (c : Class) → elim c [ illegal ↦ false | white ↦ false | start ↦ true | other ↦ false | markup ↦ false | plain ↦ false ] ≡ true →
-        elim c [ illegal ↦ false | white ↦ false | start ↦ true | other ↦ true | markup ↦ false | plain ↦ false ] ≡ true
-    at illegal e = e
-    at white e = e
-    at start e = e
-    at other e = refl
-    at markup e = e
-    at plain e = e
+    at : (c : ByteClass) → elim c [ Illegal ↦ false | White ↦ false | Start ↦ true | Other ↦ false | Markup ↦ false | Plain ↦ false ] ≡ true →
+        elim c [ Illegal ↦ false | White ↦ false | Start ↦ true | Other ↦ true | Markup ↦ false | Plain ↦ false ] ≡ true
+    at Illegal e = e
+    at White e = e
+    at Start e = e
+    at Other e = refl
+    at Markup e = e
+    at Plain e = e
 
 parts-name : (b : ℕ) (s : Bytes) → Name b s → is_name (b ∷ s) ≡ true
 unfolding is_name is_value all
@@ -167,7 +169,7 @@ name-at q t c a = all-at is_name_byte q t c (name-bytes (q ++ c ∷ t) a)
 
 -- and is a small number
 class-name : (w n d m p : Bool) → n ≡ false → d ≡ false →
-    elim (class_by w n d m p) [ illegal ↦ false | white ↦ false | start ↦ true | other ↦ true | markup ↦ false | plain ↦ false ] ≡ false
+    elim (class_by w n d m p) [ Illegal ↦ false | White ↦ false | Start ↦ true | Other ↦ true | Markup ↦ false | Plain ↦ false ] ≡ false
 class-name true n d m p e f = refl
 class-name false true d m p e f = e
 class-name false false true m p e f = f

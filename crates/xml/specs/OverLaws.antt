@@ -51,6 +51,13 @@ at_set (o ∷ []) zero b = refl
 at_set (o ∷ p ∷ os) zero b = refl
 at_set (o ∷ os) (suc a) b = ap (λ l. o ∷ l) (at_set os a b)
 
+-- where all of it fits, it takes the place of as many bytes
+pub at-fits : (out : List ℕ) (a : ℕ) (w : List ℕ) → a + length w ≤ length out → over_at out a w ≡ put_mid a (length w) out w
+unfolding over_at over
+at-fits out a w h =
+    let n : length w ≤ length (drop a out) = rw length-drop (omega arith) in
+    rw (take_all (length (drop a out)) w n) refl
+
 over-then : (out v w : List ℕ) → over_at (over out v) (length v) w ≡ over out (v ++ w)
 unfolding over over_at
 over-then out [] w = ap (λ l. over l w) (over-nil out)

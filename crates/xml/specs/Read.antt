@@ -1,16 +1,10 @@
 -- Reading a text of the XML subset, token by token: the forest that it spells, or the place of the first byte that no such text has there.
 -- What it means is the grammar (Grammar.antt, `read-sound` and `read-complete`); a program is proved against these steps.
-use Rattle.std.specs.Prelude.{ℕ, zero, suc, ◌+◌, ◌-◌, max, ◌≡◌, refl, Bool, true, false, ◌&&◌, ◌||◌, List, [], ◌∷◌, map, eqb, leb, length, take, drop, get_or}
+use Rattle.std.specs.Prelude.{ℕ, zero, suc, ◌+◌, ◌-◌, max, ◌≡◌, refl, Bool, true, false, ◌&&◌, ◌||◌, List, [], ◌∷◌, map, eqb, leb, length, take, drop, get_or, Result, Ok, Err, Option, Some, None}
 use Prim.Native.Char.{code}
 use Rattle.xml.specs.Bytes.{Bytes, bytes, same, is_white, is_legal, is_character, is_start, is_name_byte, is_times}
 use Rattle.xml.specs.Tags.{Attr, attr, name_of, parts, tag_text, is_quote, in_value, is_new, fresh, new_len, tags_compute}
 use Rattle.xml.specs.Forest.{Forest, end, elem, text, stamp, join, write, forest_compute}
-use Rattle.xml.specs.declared.Found.{Found}
-use Rattle.xml.specs.declared.Found.TheVariants.{Hit, Miss}
-use Rattle.xml.specs.declared.Next.{Next}
-use Rattle.xml.specs.declared.Next.TheVariants.{Over, On, Off}
-use Rattle.xml.specs.declared.Run.{Run}
-use Rattle.xml.specs.declared.Run.TheVariants.{Upto, Stop}
 
 -- how many bytes at the start of s agree with the word
 unfoldable pub common : Bytes → Bytes → ℕ
@@ -33,17 +27,17 @@ times_len [] = 0
 times_len (b ∷ s) = elim (is_times b) [ true ↦ suc (times_len s) | false ↦ 0 ]
 
 -- ---- entities: after an `&`, the rest of one, so many bytes long, which means the byte; or none, and so many bytes are right
-unfoldable pub further : ℕ → Found → Found
-further k (Hit n b) = Hit n b
-further k (Miss m) = Miss (max k m)
+unfoldable pub further : ℕ → Result (ℕ × ℕ) ℕ → Result (ℕ × ℕ) ℕ
+further k (Ok (n, b)) = Ok (n, b)
+further k (Err m) = Err (max k m)
 
-unfoldable pub try : Bytes → ℕ → Bytes → Found → Found
-try w b s other = elim (eqb (common w s) (length w)) [ true ↦ Hit (length w) b | false ↦ further (common w s) other ]
+unfoldable pub try : Bytes → ℕ → Bytes → Result (ℕ × ℕ) ℕ → Result (ℕ × ℕ) ℕ
+try w b s other = elim (eqb (common w s) (length w)) [ true ↦ Ok (length w, b) | false ↦ further (common w s) other ]
 
-unfoldable pub entity_at : Bytes → Found
+unfoldable pub entity_at : Bytes → Result (ℕ × ℕ) ℕ
 entity_at s =
     try (bytes "lt;") (code "<") s (try (bytes "gt;") (code ">") s (try (bytes "amp;") (code "&") s
-    (try (bytes "quot;") (code "\"") s (try (bytes "apos;") (code "'") s (Miss 0)))))
+    (try (bytes "quot;") (code "\"") s (try (bytes "apos;") (code "'") s (Err 0)))))
 
 -- the bytes that a run means, line ends read as LF; k of its bytes are to be skipped
 unfoldable pub unescape : ℕ → Bytes → Bytes
@@ -57,88 +51,88 @@ unescape zero (b ∷ s) =
             | true ↦ elim (eqb (get_or s 0 0) (code "\n")) [ true ↦ unescape 0 s | false ↦ code "\n" ∷ unescape 0 s ]
           ]
       | true ↦
-          elim (entity_at s) [ Hit n c ↦ c ∷ unescape n s | Miss n ↦ b ∷ unescape 0 s ]
+          elim (entity_at s) [ Ok (n, c) ↦ c ∷ unescape n s | Err n ↦ b ∷ unescape 0 s ]
     ]
 
 -- ---- a run of text
 -- a byte b of it, with s after it and q times `]` before it: the run ends here; or it goes on, after k bytes more of an entity, with
 -- so many `]` before it; or the byte so many bytes on is wrong
-unfoldable pub text_byte : ℕ → ℕ → Bytes → Next
+unfoldable pub text_byte : ℕ → ℕ → Bytes → Result (Option (ℕ × ℕ)) ℕ
 text_byte q b s =
     elim (eqb b (code "<")) [
-      | true ↦ Over
+      | true ↦ Ok None
       | false ↦
           elim (eqb b (code "&")) [
-            | true ↦ elim (entity_at s) [ Hit k c ↦ On k 0 | Miss k ↦ Off (1 + k) ]
+            | true ↦ elim (entity_at s) [ Ok (k, c) ↦ Ok (Some (k, 0)) | Err k ↦ Err (1 + k) ]
             | false ↦
                 elim (eqb b (code "]")) [
-                  | true ↦ On 0 (q + 1)
+                  | true ↦ Ok (Some (0, q + 1))
                   | false ↦
                       elim (eqb b (code ">") && leb 2 q) [
-                        | true ↦ Off 0
+                        | true ↦ Err 0
                         | false ↦
-                            elim (is_legal b) [ true ↦ On 0 0 | false ↦ Off 0 ]
+                            elim (is_legal b) [ true ↦ Ok (Some (0, 0)) | false ↦ Err 0 ]
                       ]
                 ]
           ]
     ]
 
 -- how far a run goes: up to a `<` or the end of the text; or it stops at a wrong byte. n is the number of bytes passed
-unfoldable pub scan : ℕ → ℕ → ℕ → Bytes → Run
-scan q k n [] = Upto n
+unfoldable pub scan : ℕ → ℕ → ℕ → Bytes → Result ℕ ℕ
+scan q k n [] = Ok n
 scan q (suc k) n (b ∷ s) = scan q k (n + 1) s
-scan q zero n (b ∷ s) = elim (text_byte q b s) [ Over ↦ Upto n | On k r ↦ scan r k (n + 1) s | Off k ↦ Stop (n + k) ]
+scan q zero n (b ∷ s) = elim (text_byte q b s) [ Ok None ↦ Ok n | Ok (Some (k, r)) ↦ scan r k (n + 1) s | Err k ↦ Err (n + k) ]
 
 -- ---- what stands in a start tag
 -- a byte b of a value between quotes q, with s after it: the value ends here; or it goes on, after k bytes more of an entity; or the
 -- byte so many bytes on is wrong
-unfoldable pub value_byte : ℕ → ℕ → Bytes → Next
+unfoldable pub value_byte : ℕ → ℕ → Bytes → Result (Option (ℕ × ℕ)) ℕ
 value_byte q b s =
     elim (eqb b q) [
-      | true ↦ Over
+      | true ↦ Ok None
       | false ↦
           elim (eqb b (code "&")) [
-            | true ↦ elim (entity_at s) [ Hit k c ↦ On k 0 | Miss k ↦ Off (1 + k) ]
+            | true ↦ elim (entity_at s) [ Ok (k, c) ↦ Ok (Some (k, 0)) | Err k ↦ Err (1 + k) ]
             | false ↦
-                elim (is_character b && in_value q b) [ true ↦ On 0 0 | false ↦ Off 0 ]
+                elim (is_character b && in_value q b) [ true ↦ Ok (Some (0, 0)) | false ↦ Err 0 ]
           ]
     ]
 
 -- how far a value goes: up to the quote; or it stops at a wrong byte, or at the end of the text. n is the number of bytes passed
-unfoldable pub value : ℕ → ℕ → ℕ → Bytes → Run
-value q k n [] = Stop n
+unfoldable pub value : ℕ → ℕ → ℕ → Bytes → Result ℕ ℕ
+value q k n [] = Err n
 value q (suc k) n (b ∷ s) = value q k (n + 1) s
-value q zero n (b ∷ s) = elim (value_byte q b s) [ Over ↦ Upto n | On k r ↦ value q k (n + 1) s | Off k ↦ Stop (n + k) ]
+value q zero n (b ∷ s) = elim (value_byte q b s) [ Ok None ↦ Ok n | Ok (Some (k, r)) ↦ value q k (n + 1) s | Err k ↦ Err (n + k) ]
 
 -- after the space before an attribute: its name has m bytes, which begin a new name. The bytes after the space that it takes, or how
 -- far from the space the wrong byte stands
-unfoldable pub attr_of : List Bytes → Bytes → ℕ → Next
+unfoldable pub attr_of : List Bytes → Bytes → ℕ → Result (Option (ℕ × ℕ)) ℕ
 attr_of used s m =
     elim (is_new used (take m s) && eqb (get_or s m 0) (code "=")) [
-      | false ↦ Off (1 + m)
+      | false ↦ Err (1 + m)
       | true ↦
           elim (is_quote (get_or s (1 + m) 0)) [
-            | false ↦ Off (2 + m)
+            | false ↦ Err (2 + m)
             | true ↦
-                elim (value (get_or s (1 + m) 0) 0 0 (drop (2 + m) s)) [ Upto k ↦ On (3 + m + k) 0 | Stop k ↦ Off (3 + m + k) ]
+                elim (value (get_or s (1 + m) 0) 0 0 (drop (2 + m) s)) [ Ok k ↦ Ok (Some (3 + m + k, 0)) | Err k ↦ Err (3 + m + k) ]
           ]
     ]
 
 -- a byte after a name or an attribute: what is in the tag is over; or an attribute more goes on for so many bytes, or is wrong
-unfoldable pub attr_byte : List Bytes → ℕ → Bytes → Next
-attr_byte used b s = elim (eqb b (code " ") && fresh 32 used []) [ true ↦ attr_of used s (new_len used s) | false ↦ Over ]
+unfoldable pub attr_byte : List Bytes → ℕ → Bytes → Result (Option (ℕ × ℕ)) ℕ
+attr_byte used b s = elim (eqb b (code " ") && fresh 32 used []) [ true ↦ attr_of used s (new_len used s) | false ↦ Ok None ]
 
 -- how far attributes go, after those with the names `used`; k bytes are to be skipped, n were passed
-unfoldable pub attrs : List Bytes → ℕ → ℕ → Bytes → Run
-attrs used k n [] = Upto n
+unfoldable pub attrs : List Bytes → ℕ → ℕ → Bytes → Result ℕ ℕ
+attrs used k n [] = Ok n
 attrs used (suc k) n (b ∷ s) = attrs used k (n + 1) s
-attrs used zero n (b ∷ s) = elim (attr_byte used b s) [ Over ↦ Upto n | On k r ↦ attrs (take (new_len used s) s ∷ used) k (n + 1) s | Off k ↦ Stop (n + k) ]
+attrs used zero n (b ∷ s) = elim (attr_byte used b s) [ Ok None ↦ Ok n | Ok (Some (k, r)) ↦ attrs (take (new_len used s) s ∷ used) k (n + 1) s | Err k ↦ Err (n + k) ]
 
 -- how long what stands in a start tag is, of which the name has n bytes; an archive's `T` has no attributes
-unfoldable pub tag_from : Bool → Bytes → ℕ → Run
-tag_from a s n = elim (eqb n 0 || a && same (take n s) (bytes "T")) [ true ↦ Upto n | false ↦ attrs [] 0 n (drop n s) ]
+unfoldable pub tag_from : Bool → Bytes → ℕ → Result ℕ ℕ
+tag_from a s n = elim (eqb n 0 || a && same (take n s) (bytes "T")) [ true ↦ Ok n | false ↦ attrs [] 0 n (drop n s) ]
 
-abbrev pub tag_len : Bool → Bytes → Run
+abbrev pub tag_len : Bool → Bytes → Result ℕ ℕ
 tag_len a s = tag_from a s (name_len s)
 
 -- the tag that it means
@@ -225,7 +219,7 @@ end_tag o g st f s = end_of o g st f s (common (tag_name o) s)
 
 unfoldable pub characters : Stack → Forest → Bytes → Move
 characters st f s =
-    elim (scan 0 0 0 s) [ Upto k ↦ move st (join f (text (unescape 0 (take k s)) end)) (k - 1) | Stop k ↦ wrong k ]
+    elim (scan 0 0 0 s) [ Ok k ↦ move st (join f (text (unescape 0 (take k s)) end)) (k - 1) | Err k ↦ wrong k ]
 
 unfoldable pub step : Bool → Stack → Forest → Bytes → Move
 step a st f [] = wrong 0

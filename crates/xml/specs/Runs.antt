@@ -1,5 +1,5 @@
 -- A run of text is scanned to its end, and what is scanned to its end is a run.
-use Rattle.std.specs.Prelude.{ℕ, zero, suc, ◌+◌, ◌≤◌, ◌<◌, ◌≡◌, refl, true, [], ◌∷◌, ◌++◌, eqb, leb, length, drop, get_or}
+use Rattle.std.specs.Prelude.{ℕ, zero, suc, ◌+◌, ◌≤◌, ◌<◌, ◌≡◌, refl, true, [], ◌∷◌, ◌++◌, eqb, leb, length, drop, get_or, Result, Ok, Err, Option, Some, None}
 use Prim.Native.Char.{code}
 use Rattle.std.proofs.Common.{add-zero, not-suc-le-zero, le_of_suc-le-suc, arith, ap, sym, ◌∙◌, subst, append_assoc, eqb-true, leb-true, leb-false, length-append}
 use Rattle.std.proofs.lemmas.Bool.{eqb-false}
@@ -12,13 +12,9 @@ use Rattle.xml.specs.Clear.{Clear, clear-nil, clear-entity, clear-bracket, clear
 use Rattle.xml.specs.ScanLaws.{entity-fits, found_len}
 use Rattle.xml.specs.TextLaws.{byte-bracket, byte-greater, byte-other, scan-cons}
 use Rattle.xml.specs.Words.{Signed, signed, Byte, over, hit, bracket, character, off, byte}
-use Rattle.xml.specs.declared.Found.{Found}
-use Rattle.xml.specs.declared.Next.{Next}
-use Rattle.xml.specs.declared.Next.TheVariants.{Over, On, Off}
-use Rattle.xml.specs.declared.Run.TheVariants.{Upto, Stop}
 
 -- ---- a run is scanned
-scan_lt : (q n : ℕ) (t : Bytes) → scan q 0 n (code "<" ∷ t) ≡ Upto n
+scan_lt : (q n : ℕ) (t : Bytes) → scan q 0 n (code "<" ∷ t) ≡ Ok n
 unfolding scan text_byte
 scan_lt q n t = refl
 
@@ -32,7 +28,7 @@ scan-entity q n s apos = ap (λ (m : ℕ). scan 0 0 m s) (omega arith)
 
 -- a character of a run, and the number of `]` just before the next byte
 byte-kept : (q b : ℕ) (s t : Bytes) → is_character b ≡ true → Clear q (b ∷ t) →
-    (p : ℕ) × (text_byte q b s ≡ On 0 p) × Clear p t
+    (p : ℕ) × (text_byte q b s ≡ Ok (Some (0, p))) × Clear p t
 byte-kept q b s t e k =
     by-test (eqb b (code "]"))
     (λ x. (q + 1, byte-bracket q b s n m (eqb-true b (code "]") x), bracket-clear q t (subst (λ (y : ℕ). Clear q (y ∷ t)) (eqb-true b (code "]") x) k)))
@@ -44,7 +40,7 @@ byte-kept q b s t e k =
     m : b ≡ code "&" → ⊥
     m = character-not b (code "&") amp-markup e
 
-    plain : (b ≡ code "]" → ⊥) → text_byte q b s ≡ On 0 0
+    plain : (b ≡ code "]" → ⊥) → text_byte q b s ≡ Ok (Some (0, 0))
     plain x =
         by-test (eqb b (code ">"))
         (λ y.
@@ -53,7 +49,7 @@ byte-kept q b s t e k =
         (by-test (leb 2 q) (λ z. absurd (clear-closed q t (subst (λ (c : ℕ). Clear q (c ∷ t)) g k) (leb-true 2 q z))) (λ z. leb-false 2 q z)))
         (λ y. byte-other q b s true n m x (eqb-false b (code ">") y) (character-legal b e))
 
-scan-on : (q n b p : ℕ) (s : Bytes) → text_byte q b s ≡ On 0 p → scan q 0 n (b ∷ s) ≡ scan p 0 (n + 1) s
+scan-on : (q n b p : ℕ) (s : Bytes) → text_byte q b s ≡ Ok (Some (0, p)) → scan q 0 n (b ∷ s) ≡ scan p 0 (n + 1) s
 scan-on q n b p s e = rw (scan-cons, e)
 
 return_kept : (b : ℕ) → b ≡ code "\r" → is_character b ≡ true
@@ -61,22 +57,22 @@ unfolding bytes_compute
 return_kept b e = rw e
 
 one_more : (q n b : ℕ) (s u : Bytes) → is_character b ≡ true → Clear q (b ∷ s)
-    → ((p : ℕ) → Clear p s → scan p 0 (n + 1) (s ++ code "<" ∷ u) ≡ Upto (n + 1 + length s)) → scan q 0 n (b ∷ (s ++ code "<" ∷ u)) ≡ Upto (n + suc (length s))
+    → ((p : ℕ) → Clear p s → scan p 0 (n + 1) (s ++ code "<" ∷ u) ≡ Ok (n + 1 + length s)) → scan q 0 n (b ∷ (s ++ code "<" ∷ u)) ≡ Ok (n + suc (length s))
 one_more q n b s u e k f =
     let v = s ++ code "<" ∷ u in
     let x = byte-kept q b v s e k in
     let m : n + 1 + length s ≡ n + suc (length s) = omega arith in
-    scan-on q n b x.0 v x.1 ∙ f x.0 x.2 ∙ ap Upto m
+    scan-on q n b x.0 v x.1 ∙ f x.0 x.2 ∙ ap Ok m
 
-pub scan-characters : {s t : Bytes} (q n : ℕ) (u : Bytes) → Characters s t → Clear q s → scan q 0 n (s ++ code "<" ∷ u) ≡ Upto (n + length s)
-scan-characters q n u none k = scan_lt q n u ∙ ap Upto (sym (add-zero n))
+pub scan-characters : {s t : Bytes} (q n : ℕ) (u : Bytes) → Characters s t → Clear q s → scan q 0 n (s ++ code "<" ∷ u) ≡ Ok (n + length s)
+scan-characters q n u none k = scan_lt q n u ∙ ap Ok (sym (add-zero n))
 scan-characters q n u (kept {b = b} {s = s} e o c) k = one_more q n b s u e k (λ p l. scan-characters p (n + 1) u c l)
 scan-characters q n u (joined {b = b} {s = s} e f c) k = one_more q n b s u (return_kept b e) k (λ p l. scan-characters p (n + 1) u c l)
 scan-characters q n u (turned {b = b} {s = s} e f c) k = one_more q n b s u (return_kept b e) k (λ p l. scan-characters p (n + 1) u c l)
 scan-characters q n u (entity {e = e} {s = s} i c) k =
     let m : n + length e + length s ≡ n + length (e ++ s) = omega (arith, length-append e s) in
     ap (scan q 0 n) (append_assoc e s (code "<" ∷ u)) ∙ scan-entity q n (s ++ code "<" ∷ u) i
-    ∙ scan-characters 0 (n + length e) u c (entity-clear q s i k) ∙ ap Upto m
+    ∙ scan-characters 0 (n + length e) u c (entity-clear q s i k) ∙ ap Ok m
 
 -- ---- what is scanned is a run, and the text ends after it or goes on with a `<`
 abbrev pub Ends : Bytes → Type 0
@@ -93,7 +89,7 @@ pub record Scanned (q n m : ℕ) (s : Bytes) : Type 0 where
   pub clear : Clear q raw
   pub ends : Ends rest
 
-scanned-none : (q n m : ℕ) (s : Bytes) → Ends s → Upto n ≡ Upto m → Scanned q n m s
+scanned-none : (q n m : ℕ) (s : Bytes) → Ends s → ◌≡◌ {A = Result ℕ ℕ} (Ok n) (Ok m) → Scanned q n m s
 scanned-none q n m s i e =
     let l : n ≡ m = cc in
     record { raw = []; rest = s; meaning = []; is = refl; long = omega arith; means = none; clear = clear-nil q; ends = i }
@@ -150,7 +146,7 @@ scanned-entity q n m k c s g r =
       ends = r.ends;
     }
 
-pub scan-sound : (s : Bytes) (q k n m : ℕ) → k ≤ length s → scan q k n s ≡ Upto m → Scanned q (n + k) m (drop k s)
+pub scan-sound : (s : Bytes) (q k n m : ℕ) → k ≤ length s → scan q k n s ≡ Ok m → Scanned q (n + k) m (drop k s)
 unfolding scan
 scan-sound [] q zero n m h e = scanned-none q (n + 0) m [] tt (rw add-zero e)
 scan-sound [] q (suc k) n m h e = absurd (not-suc-le-zero h)
@@ -160,15 +156,15 @@ scan-sound (b ∷ s) q (suc k) n m h e =
 scan-sound (b ∷ s) q zero n m h e =
     subst (λ (x : ℕ). Scanned q x m (b ∷ s)) (sym (add-zero n)) (turn (text_byte q b s) (byte q b s) (λ k r g f. scan-sound s r k (n + 1) m g f) e)
   where
-    turn : (o : Next) → Byte q b s o → ((k r : ℕ) → k ≤ length s → scan r k (n + 1) s ≡ Upto m → Scanned r (n + 1 + k) m (drop k s)) →
-        elim o [ Over ↦ Upto n | On k r ↦ scan r k (n + 1) s | Off k ↦ Stop (n + k) ] ≡ Upto m → Scanned q n m (b ∷ s)
+    turn : (o : Result (Option (ℕ × ℕ)) ℕ) → Byte q b s o → ((k r : ℕ) → k ≤ length s → scan r k (n + 1) s ≡ Ok m → Scanned r (n + 1 + k) m (drop k s)) →
+        ◌≡◌ {A = Result ℕ ℕ} (elim o [ Ok None ↦ Ok n | Ok (Some (k, r)) ↦ scan r k (n + 1) s | Err k ↦ Err (n + k) ]) (Ok m) → Scanned q n m (b ∷ s)
     turn o (over x) f g = scanned-none q n m (b ∷ s) x g
     turn o (hit {k = k} {c = c} x y) f g =
-        let i : k ≤ length s = subst (λ (z : Found). found_len z ≤ length s) y (entity-fits s) in
+        let i : k ≤ length s = subst (λ (z : Result (ℕ × ℕ) ℕ). found_len z ≤ length s) y (entity-fits s) in
         subst (λ (z : ℕ). Scanned q n m (z ∷ s)) (sym x) (scanned-entity q n m k c s (signed s k c y) (f k 0 i g))
     turn o (bracket x) f g =
         subst (λ (z : ℕ). Scanned q n m (z ∷ s)) (sym x)
         (scanned-bracket q n m s (subst (λ (z : ℕ). Scanned (q + 1) z m s) (add-zero (n + 1)) (f 0 (q + 1) (omega arith) g)))
     turn o (character x y z) f g =
         scanned-kept q n m b s x y z (subst (λ (v : ℕ). Scanned 0 v m s) (add-zero (n + 1)) (f 0 0 (omega arith) g))
-    turn o off f g = let z : ◌≡◌ {A = ℕ} 0 1 = cc in absurd (omega arith)
+    turn o (off {k = k}) f g = let e : ◌≡◌ {A = Result ℕ ℕ} (Err (n + k)) (Ok m) = g in let z : ◌≡◌ {A = ℕ} 0 1 = cc in absurd (omega arith)

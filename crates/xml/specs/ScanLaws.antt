@@ -1,11 +1,9 @@
 -- Laws of names, times, words and entities: how far each goes, at a place of a text.
-use Rattle.std.specs.Prelude.{◌≡◌, refl, Bool, true, false, [], ◌∷◌, ◌++◌, ℕ, zero, suc, ◌+◌, ◌<◌, ◌≤◌, max, eqb, length, drop, get_or}
+use Rattle.std.specs.Prelude.{◌≡◌, refl, Bool, true, false, [], ◌∷◌, ◌++◌, ℕ, zero, suc, ◌+◌, ◌<◌, ◌≤◌, max, eqb, length, drop, get_or, Result, Ok, Err}
 use Rattle.std.proofs.Common.{ap, sym, ◌∙◌, add-one, one-add, arith, eq-eqb, ne_eqb, eqb-true, drop_of_length-le, drop-cons}
 use Prim.Native.Char.{code}
 use Rattle.std.proofs.lemmas.Bool.{eqb-false}
 use Rattle.xml.specs.Bytes.{Bytes, bytes, is_start, is_name_byte, is_times}
-use Rattle.xml.specs.declared.Found.{Found}
-use Rattle.xml.specs.declared.Found.TheVariants.{Hit, Miss}
 use Rattle.xml.specs.Read.{common, name_rest, name_len, times_len, try, further, entity_at}
 
 pub name_rest-cons : (r b : ℕ) (s : Bytes) → is_name_byte b ≡ true → name_rest (suc r) (b ∷ s) ≡ suc (name_rest r s)
@@ -152,24 +150,24 @@ common-fits (w ∷ ws) (b ∷ s) = go (eqb w b) refl (common-fits ws s)
     go true e h = rw (common-cons w b ws s e) (omega arith)
     go false e h = rw (common-off w b ws s e) (omega arith)
 
-abbrev pub found_len : Found → ℕ
-found_len (Hit n b) = n
-found_len (Miss n) = n
+abbrev pub found_len : Result (ℕ × ℕ) ℕ → ℕ
+found_len (Ok (n, b)) = n
+found_len (Err n) = n
 
-pub further-fits : (k m : ℕ) (o : Found) → k ≤ m → found_len o ≤ m → found_len (further k o) ≤ m
+pub further-fits : (k m : ℕ) (o : Result (ℕ × ℕ) ℕ) → k ≤ m → found_len o ≤ m → found_len (further k o) ≤ m
 unfolding further
-further-fits k m (Hit n b) h g = g
-further-fits k m (Miss n) h g = omega arith
+further-fits k m (Ok (n, b)) h g = g
+further-fits k m (Err n) h g = omega arith
 
-pub try-hit : (w : Bytes) (b : ℕ) (s : Bytes) (o : Found) → common w s ≡ length w → try w b s o ≡ Hit (length w) b
+pub try-hit : (w : Bytes) (b : ℕ) (s : Bytes) (o : Result (ℕ × ℕ) ℕ) → common w s ≡ length w → try w b s o ≡ Ok (length w, b)
 unfolding try
 try-hit w b s o e = rw (eq-eqb (common w s) (length w) e, try)
 
-pub try-miss : (w : Bytes) (b : ℕ) (s : Bytes) (o : Found) → (common w s ≡ length w → ⊥) → try w b s o ≡ further (common w s) o
+pub try-miss : (w : Bytes) (b : ℕ) (s : Bytes) (o : Result (ℕ × ℕ) ℕ) → (common w s ≡ length w → ⊥) → try w b s o ≡ further (common w s) o
 unfolding try
 try-miss w b s o e = rw (ne_eqb (common w s) (length w) e, try)
 
-pub try-fits : (w : Bytes) (b : ℕ) (s : Bytes) (o : Found) → found_len o ≤ length s → found_len (try w b s o) ≤ length s
+pub try-fits : (w : Bytes) (b : ℕ) (s : Bytes) (o : Result (ℕ × ℕ) ℕ) → found_len o ≤ length s → found_len (try w b s o) ≤ length s
 try-fits w b s o h = go (eqb (common w s) (length w)) refl
   where
     go : (t : Bool) → eqb (common w s) (length w) ≡ t → found_len (try w b s o) ≤ length s
@@ -186,29 +184,29 @@ module _ (s : Bytes) where
   abbrev pub No : Bytes → Type 0
   No w = common w s ≡ length w → ⊥
 
-  pub entity-lt : common (bytes "lt;") s ≡ 3 → entity_at s ≡ Hit 3 (code "<")
+  pub entity-lt : common (bytes "lt;") s ≡ 3 → entity_at s ≡ Ok (3, code "<")
   unfolding bytes entity_at
   entity-lt e = try-hit (bytes "lt;") (code "<") s _ e
 
-  pub entity-gt : No (bytes "lt;") → common (bytes "gt;") s ≡ 3 → entity_at s ≡ Hit 3 (code ">")
+  pub entity-gt : No (bytes "lt;") → common (bytes "gt;") s ≡ 3 → entity_at s ≡ Ok (3, code ">")
   unfolding bytes entity_at further
   entity-gt a e = rw (try-miss (bytes "lt;") (code "<") s _ a, try-hit (bytes "gt;") (code ">") s _ e)
 
-  pub entity-amp : No (bytes "lt;") → No (bytes "gt;") → common (bytes "amp;") s ≡ 4 → entity_at s ≡ Hit 4 (code "&")
+  pub entity-amp : No (bytes "lt;") → No (bytes "gt;") → common (bytes "amp;") s ≡ 4 → entity_at s ≡ Ok (4, code "&")
   unfolding bytes entity_at further
   entity-amp a b e = rw (try-miss (bytes "lt;") (code "<") s _ a, try-miss (bytes "gt;") (code ">") s _ b, try-hit (bytes "amp;") (code "&") s _ e)
 
-  pub entity-quot : No (bytes "lt;") → No (bytes "gt;") → No (bytes "amp;") → common (bytes "quot;") s ≡ 5 → entity_at s ≡ Hit 5 (code "\"")
+  pub entity-quot : No (bytes "lt;") → No (bytes "gt;") → No (bytes "amp;") → common (bytes "quot;") s ≡ 5 → entity_at s ≡ Ok (5, code "\"")
   unfolding bytes entity_at further
   entity-quot a b d e = rw (try-miss (bytes "lt;") (code "<") s _ a, try-miss (bytes "gt;") (code ">") s _ b, try-miss (bytes "amp;") (code "&") s _ d, try-hit (bytes "quot;") (code "\"") s _ e)
 
-  pub entity-apos : No (bytes "lt;") → No (bytes "gt;") → No (bytes "amp;") → No (bytes "quot;") → common (bytes "apos;") s ≡ 5 → entity_at s ≡ Hit 5 (code "'")
+  pub entity-apos : No (bytes "lt;") → No (bytes "gt;") → No (bytes "amp;") → No (bytes "quot;") → common (bytes "apos;") s ≡ 5 → entity_at s ≡ Ok (5, code "'")
   unfolding bytes entity_at further
   entity-apos a b d q e =
       rw (try-miss (bytes "lt;") (code "<") s _ a, try-miss (bytes "gt;") (code ">") s _ b, try-miss (bytes "amp;") (code "&") s _ d, try-miss (bytes "quot;") (code "\"") s _ q, try-hit (bytes "apos;") (code "'") s _ e)
 
   pub entity-none : No (bytes "lt;") → No (bytes "gt;") → No (bytes "amp;") → No (bytes "quot;") → No (bytes "apos;") →
-      entity_at s ≡ Miss (max (common (bytes "lt;") s) (max (common (bytes "gt;") s) (max (common (bytes "amp;") s) (max (common (bytes "quot;") s) (max (common (bytes "apos;") s) 0)))))
+      entity_at s ≡ Err (max (common (bytes "lt;") s) (max (common (bytes "gt;") s) (max (common (bytes "amp;") s) (max (common (bytes "quot;") s) (max (common (bytes "apos;") s) 0)))))
   unfolding bytes entity_at further
   entity-none a b d q e =
       rw (try-miss (bytes "lt;") (code "<") s _ a, try-miss (bytes "gt;") (code ">") s _ b, try-miss (bytes "amp;") (code "&") s _ d, try-miss (bytes "quot;") (code "\"") s _ q, try-miss (bytes "apos;") (code "'") s _ e)
@@ -216,7 +214,7 @@ module _ (s : Bytes) where
   pub entity-miss : (a b d q p m₅ m₄ m₃ m₂ m₁ : ℕ) →
       a ≡ common (bytes "lt;") s → b ≡ common (bytes "gt;") s → d ≡ common (bytes "amp;") s → q ≡ common (bytes "quot;") s → p ≡ common (bytes "apos;") s →
       (a ≡ 3 → ⊥) → (b ≡ 3 → ⊥) → (d ≡ 4 → ⊥) → (q ≡ 5 → ⊥) → (p ≡ 5 → ⊥) →
-      m₅ ≡ max p 0 → m₄ ≡ max q m₅ → m₃ ≡ max d m₄ → m₂ ≡ max b m₃ → m₁ ≡ max a m₂ → Miss m₁ ≡ entity_at s
+      m₅ ≡ max p 0 → m₄ ≡ max q m₅ → m₃ ≡ max d m₄ → m₂ ≡ max b m₃ → m₁ ≡ max a m₂ → Err m₁ ≡ entity_at s
   unfolding bytes
   entity-miss a b d q p m₅ m₄ m₃ m₂ m₁ ea eb ed eq ep na nb nd nq np e₅ e₄ e₃ e₂ e₁ =
       let no = entity-none (λ e. na (ea ∙ e)) (λ e. nb (eb ∙ e)) (λ e. nd (ed ∙ e)) (λ e. nq (eq ∙ e)) (λ e. np (ep ∙ e)) in
@@ -237,7 +235,7 @@ begins (w ∷ ws) (b ∷ s) e = at (eqb w b) refl (λ g. begins ws s g)
         ap (λ (y : ℕ). y ∷ s) (sym x) ∙ ap (λ (l : Bytes). w ∷ l) g
     at false q f = let z : 0 ≡ suc (length ws) = sym (common-off w b ws s q) ∙ e in absurd (omega arith)
 
-pub further-hit : (k : ℕ) (o : Found) (n c : ℕ) → further k o ≡ Hit n c → o ≡ Hit n c
+pub further-hit : (k : ℕ) (o : Result (ℕ × ℕ) ℕ) (n c : ℕ) → further k o ≡ Ok (n, c) → o ≡ Ok (n, c)
 unfolding further
-further-hit k (Hit j b) n c e = e
-further-hit k (Miss j) n c e = let z : ◌≡◌ {A = ℕ} 0 1 = cc in absurd (omega arith)
+further-hit k (Ok (j, b)) n c e = e
+further-hit k (Err j) n c e = let z : ◌≡◌ {A = ℕ} 0 1 = cc in absurd (omega arith)

@@ -1,5 +1,5 @@
 -- Laws of runs of text: what is meant first, and what comes after; bytes that are written as they stand.
-use Rattle.std.specs.Prelude.{ℕ, zero, suc, ◌+◌, ◌*◌, ◌-◌, ◌<◌, ◌≤◌, ◌≡◌, refl, Bool, true, false, ◌||◌, [], ◌∷◌, ◌++◌, eqb, length, take, drop, get_or}
+use Rattle.std.specs.Prelude.{ℕ, zero, suc, ◌+◌, ◌*◌, ◌-◌, ◌<◌, ◌≤◌, ◌≡◌, refl, Bool, true, false, ◌||◌, [], ◌∷◌, ◌++◌, eqb, length, take, drop, get_or, Result, Ok, Err}
 use Prim.Native.Char.{code}
 use Rattle.std.proofs.Common.{ap, ap₂, sym, ◌∙◌, subst, append-nil, add-one, add-zero, arith, drop-cons, drop-drop, length-take-le, get_or-take, get_or-drop, take-take, eq-eqb, ne_eqb, eqb-true}
 use Rattle.std.proofs.Math.Seq.{slice, length-slice, slice_empty}
@@ -12,8 +12,6 @@ use Rattle.xml.specs.ScanLaws.{found_len, entity-fits}
 use Rattle.xml.specs.Signs.{spelt, is_marked, plain_len, sign_found, sign_return, sign_at}
 use Rattle.xml.specs.TapeLaws.{slice-part, length-escape, length-unescape}
 use Rattle.xml.specs.Truth.{or_left, or_right, by-test}
-use Rattle.xml.specs.declared.Found.{Found}
-use Rattle.xml.specs.declared.Found.TheVariants.{Hit, Miss}
 use Rattle.xml.specs.declared.text.Sign.{Sign}
 
 -- ---- parts of a text
@@ -33,11 +31,11 @@ unescape-skip zero s = refl
 unescape-skip (suc k) [] = refl
 unescape-skip (suc k) (b ∷ s) = unescape-skip k s
 
-pub unescape-hit : (b n c : ℕ) (s : Bytes) → b ≡ code "&" → entity_at s ≡ Hit n c → unescape 0 (b ∷ s) ≡ c ∷ unescape 0 (drop n s)
+pub unescape-hit : (b n c : ℕ) (s : Bytes) → b ≡ code "&" → entity_at s ≡ Ok (n, c) → unescape 0 (b ∷ s) ≡ c ∷ unescape 0 (drop n s)
 unfolding unescape
 unescape-hit b n c s e h = rw (eq-eqb b (code "&") e, h, unescape) (ap (λ (x : Bytes). c ∷ x) (unescape-skip n s))
 
-pub unescape-miss : (b n : ℕ) (s : Bytes) → b ≡ code "&" → entity_at s ≡ Miss n → unescape 0 (b ∷ s) ≡ b ∷ unescape 0 s
+pub unescape-miss : (b n : ℕ) (s : Bytes) → b ≡ code "&" → entity_at s ≡ Err n → unescape 0 (b ∷ s) ≡ b ∷ unescape 0 s
 unfolding unescape
 unescape-miss b n s e h = rw (eq-eqb b (code "&") e, h, unescape)
 
@@ -110,15 +108,15 @@ module _ (src : Bytes) (i e : ℕ) (h : i < e) (k : e ≤ length src) where
   meant-return a =
       by-test (eqb (get_or (slice (i + 1) e src) 0 0) (code "\n")) (λ t. rw t (meant-joined a (eqb-true _ (code "\n") t))) (λ t. rw t (meant-turned a (eqb-false _ (code "\n") t)))
 
-  meant-found : get_or src i 0 ≡ code "&" → (o : Found) → entity_at (slice (i + 1) e src) ≡ o → found_len o ≤ length (slice (i + 1) e src)
+  meant-found : get_or src i 0 ≡ code "&" → (o : Result (ℕ × ℕ) ℕ) → entity_at (slice (i + 1) e src) ≡ o → found_len o ≤ length (slice (i + 1) e src)
       → Meant src i e (sign_found i (get_or src i 0) o)
-  meant-found a (Hit n c) x l =
+  meant-found a (Ok (n, c)) x l =
       record {
         means = rw (slice_first i e src h k) (unescape-hit (get_or src i 0) n c (slice (i + 1) e src) a x ∙ ap (λ (y : Bytes). c ∷ unescape 0 y) (slice-skip (i + 1) e n src));
         forward = omega arith;
         inside = omega (arith, length-slice (i + 1) e src k);
       }
-  meant-found a (Miss n) x l =
+  meant-found a (Err n) x l =
       record {
         means = rw (slice_first i e src h k) (unescape-miss (get_or src i 0) n (slice (i + 1) e src) a x);
         forward = omega arith;
@@ -131,12 +129,12 @@ module _ (src : Bytes) (i e : ℕ) (h : i < e) (k : e ≤ length src) where
   pub sign_line : get_or src i 0 ≡ code "\r" → sign_at i (slice i e src) ≡ sign_return i (slice (i + 1) e src)
   sign_line a = rw (slice_first i e src h k) (sign-return i (get_or src i 0) (slice (i + 1) e src) a)
 
-  pub sign-found : get_or src i 0 ≡ code "&" → (o : Found) → entity_at (slice (i + 1) e src) ≡ o → sign_at i (slice i e src) ≡ sign_found i (get_or src i 0) o
+  pub sign-found : get_or src i 0 ≡ code "&" → (o : Result (ℕ × ℕ) ℕ) → entity_at (slice (i + 1) e src) ≡ o → sign_at i (slice i e src) ≡ sign_found i (get_or src i 0) o
   sign-found a o x = rw (slice_first i e src h k) (sign-amp i (get_or src i 0) (slice (i + 1) e src) a ∙ ap (sign_found i (get_or src i 0)) x)
 
-  pub found_inside : (n c : ℕ) → entity_at (slice (i + 1) e src) ≡ Hit n c → i + 1 + n ≤ e
+  pub found_inside : (n c : ℕ) → entity_at (slice (i + 1) e src) ≡ Ok (n, c) → i + 1 + n ≤ e
   found_inside n c x =
-      let l : n ≤ length (slice (i + 1) e src) = subst (λ (o : Found). found_len o ≤ length (slice (i + 1) e src)) x (entity-fits (slice (i + 1) e src)) in
+      let l : n ≤ length (slice (i + 1) e src) = subst (λ (o : Result (ℕ × ℕ) ℕ). found_len o ≤ length (slice (i + 1) e src)) x (entity-fits (slice (i + 1) e src)) in
       omega (arith, length-slice (i + 1) e src k)
 
   pub sign-means : Meant src i e (sign_at i (slice i e src))

@@ -1,11 +1,9 @@
 -- A run of text by its raw bytes: what is meant first, and how many bytes at the start are written as they stand.
-use Rattle.std.specs.Prelude.{ℕ, suc, ◌+◌, Bool, true, false, ◌||◌, [], ◌∷◌, eqb, get_or}
+use Rattle.std.specs.Prelude.{ℕ, suc, ◌+◌, Bool, true, false, ◌||◌, [], ◌∷◌, eqb, get_or, Result, Ok, Err}
 use Prim.Native.Char.{code}
 use Rattle.xml.specs.Bytes.{Bytes}
 use Rattle.xml.specs.Forest.{escape}
 use Rattle.xml.specs.Read.{entity_at, unescape}
-use Rattle.xml.specs.declared.Found.{Found}
-use Rattle.xml.specs.declared.Found.TheVariants.{Hit, Miss}
 use Rattle.xml.specs.declared.text.Sign.{Sign}
 
 -- what a run of raw bytes is written as
@@ -22,9 +20,9 @@ plain_len [] = 0
 plain_len (b ∷ s) = elim (is_marked b) [ true ↦ 0 | false ↦ suc (plain_len s) ]
 
 -- at the place i stands an `&`, with o after it
-abbrev pub sign_found : ℕ → ℕ → Found → Sign
-sign_found i b (Hit n c) = record { byte = c; next = i + 1 + n }
-sign_found i b (Miss n) = record { byte = b; next = i + 1 }
+abbrev pub sign_found : ℕ → ℕ → Result (ℕ × ℕ) ℕ → Sign
+sign_found i b (Ok (n, c)) = record { byte = c; next = i + 1 + n }
+sign_found i b (Err n) = record { byte = b; next = i + 1 }
 
 -- at the place i stands a CR, with s after it
 abbrev pub sign_return : ℕ → Bytes → Sign

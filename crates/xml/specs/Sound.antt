@@ -3,7 +3,7 @@ use Prim.Native.Nat.{ℕ, zero, suc, ◌+◌, ◌-◌, ◌≤◌, ◌<◌}
 use Prim.Native.Char.{code}
 use Rattle.std.proofs.Common.{not-suc-le-zero, le_of_suc-le-suc, sym, ◌∙◌, subst, drop-cons}
 use native.Mathlib.Omega.{arith}
-use Rattle.std.specs.Prelude.{◌≡◌, Bool, true, false, ◌&&◌}
+use Rattle.std.specs.Prelude.{◌≡◌, Bool, true, false, ◌&&◌, Result, Ok, Err}
 use Rattle.std.proofs.Math.Path.{refl, ap}
 use mathlib.Core.List.{[], ◌∷◌, ◌++◌, append_assoc, append-nil}
 use borrow.Author.Tests.{eqb-true, eqb-false}
@@ -22,8 +22,6 @@ use Rattle.xml.specs.Runs.{Ends, scan-sound}
 use Rattle.xml.specs.StepLaws.{in-range}
 use Rattle.xml.specs.Opened.{ends_text, closing, Opened, blank, Free, opened-more, opened-end, opened-white, opened-finish, free-node, node-root}
 use Rattle.xml.specs.StepSound.{Stepped, SteppedTo, pick, cut, start-sound}
-use Rattle.xml.specs.declared.Run.{Run}
-use Rattle.xml.specs.declared.Run.TheVariants.{Upto, Stop}
 
 -- ---- in an element
 module _ (a : Bool) (o : Tag) (g : Forest) (st : Stack) (f : Forest) (p : Bytes) (opened : Opened a (inside o g st) p f) where
@@ -79,13 +77,13 @@ module _ (a : Bool) (o : Tag) (g : Forest) (st : Stack) (f : Forest) (p : Bytes)
   unfolding characters
   chars-sound b s n d = at (scan 0 0 0 (b ∷ s)) refl
     where
-      at : (r : Run) → scan 0 0 0 (b ∷ s) ≡ r →
-          SteppedTo a p (b ∷ s) s (elim r [ Upto k ↦ move (inside o g st) (join f (text (unescape 0 (take k (b ∷ s))) end)) (k - 1) | Stop k ↦ wrong k ])
-      at (Upto k) e =
+      at : (r : Result ℕ ℕ) → scan 0 0 0 (b ∷ s) ≡ r →
+          SteppedTo a p (b ∷ s) s (elim r [ Ok k ↦ move (inside o g st) (join f (text (unescape 0 (take k (b ∷ s))) end)) (k - 1) | Err k ↦ wrong k ])
+      at (Ok k) e =
           let r = scan-sound (b ∷ s) 0 0 0 k (omega arith) e in
           let l = r.long in
           run-good b s r.raw r.rest r.meaning k n d r.is (omega arith) r.means r.clear r.ends
-      at (Stop k) e = tt
+      at (Err k) e = tt
 
   in-sound : (b : ℕ) (s : Bytes) → Free (inside o g st) f (b ∷ s) → SteppedTo a p (b ∷ s) s (step a (inside o g st) f (b ∷ s))
   unfolding step

@@ -1,15 +1,14 @@
 -- The reader's state: how what it holds stands to the definition of reading, and what each of its functions says.
-use Rattle.std.specs.Prelude.{ℕ, ◌+◌, ◌*◌, ◌<◌, ◌≤◌, ◌≡◌, Bool, List, length, drop, get_or, set}
+use Rattle.std.specs.Prelude.{ℕ, ◌+◌, ◌*◌, ◌<◌, ◌≤◌, ◌≡◌, Bool, List, length, drop, get_or, set, Result, Ok, Err}
 use Prim.Native.Char.{code}
 use Rattle.xml.specs.Bytes.{Bytes}
 use Rattle.xml.specs.Forest.{Forest}
 use Rattle.xml.specs.Read.{Stack, whole, broken, step, start_tag, go, read}
 use Rattle.xml.specs.Tape.{Tape, size}
 use Rattle.xml.specs.Held.{Held}
-use Rattle.xml.specs.declared.Step.{Step}
-use Rattle.xml.specs.declared.Step.TheVariants.{Go, Bad, Full}
-use Rattle.xml.specs.declared.Reply.{Reply}
-use Rattle.xml.specs.declared.Reply.TheVariants.{Done, Wrong, Full as TooShort}
+use Rattle.xml.specs.declared.ReadError.{ReadError}
+use Rattle.xml.specs.declared.ReadError.TheVariants.{Wrong, Full}
+use Rattle.xml.specs.declared.reader.Progress.{Progress}
 
 -- a run of text stands after a tag: there the nodes so far have left a byte
 abbrev pub Spare : Bytes → ℕ → ℕ → ℕ → Type 0
@@ -61,10 +60,15 @@ Untouched before cells n = (i : ℕ) → 2 * n ≤ i → get_or cells i 0 ≡ ge
 abbrev pub Overfull : Bool → Bytes → List ℕ → Type 0
 Overfull a src cells = (length cells < length src) × ((f : Forest) → read a src ≡ whole f → length cells < 2 * size f)
 
+-- why reading stopped: at a wrong byte, or for want of room
+abbrev pub Refused : Bool → Bytes → List ℕ → ReadError → Type 0
+Refused a src cells (Wrong p) = read a src ≡ broken p
+Refused a src cells Full = Overfull a src cells
+
 -- the two cells of a new node were written, and the reader goes on at `at` with `top` open; or there is no room for them
-pub record Noted (before : List ℕ) (count head next at top : ℕ) (cells : List ℕ) (r : Step) : Type 0 where
-  pub fits : 2 * count + 1 < length before → (r ≡ Go at (count + 1) top) × (cells ≡ set (set before (2 * count) head) (2 * count + 1) next)
-  pub over : length before < 2 * count + 2 → (r ≡ Full) × (cells ≡ before)
+pub record Noted (before : List ℕ) (count head next at top : ℕ) (cells : List ℕ) (r : Result Progress ReadError) : Type 0 where
+  pub fits : 2 * count + 1 < length before → (r ≡ Ok (record { at = at; count = count + 1; top = top })) × (cells ≡ set (set before (2 * count) head) (2 * count + 1) next)
+  pub over : length before < 2 * count + 2 → (r ≡ Err Full) × (cells ≡ before)
 
 -- a step went on
 pub record Went (a : Bool) (src : Bytes) (before : List ℕ) (at count : ℕ) (cells : List ℕ) (p n top : ℕ) : Type 0 where
@@ -74,10 +78,9 @@ pub record Went (a : Bool) (src : Bytes) (before : List ℕ) (at count : ℕ) (c
   pub untouched : Untouched before cells n
 
 -- what a step from `at` and `count` says
-abbrev pub Stepped : Bool → Bytes → List ℕ → ℕ → ℕ → List ℕ → Step → Type 0
-Stepped a src before at count cells (Go p n top) = Went a src before at count cells p n top
-Stepped a src before at count cells (Bad p) = read a src ≡ broken p
-Stepped a src before at count cells Full = Overfull a src cells
+abbrev pub Stepped : Bool → Bytes → List ℕ → ℕ → ℕ → List ℕ → Result Progress ReadError → Type 0
+Stepped a src before at count cells (Ok p) = Went a src before at count cells p.at p.count p.top
+Stepped a src before at count cells (Err e) = Refused a src cells e
 
 -- the text was read: its forest stands on the tape, and nothing else has changed
 pub record Filled (a : Bool) (src : Bytes) (before cells : List ℕ) (n : ℕ) : Type 0 where
@@ -88,7 +91,6 @@ pub record Filled (a : Bool) (src : Bytes) (before cells : List ℕ) (n : ℕ) :
   pub untouched : Untouched before cells n
 
 -- what the reader answers
-abbrev pub Replied : Bool → Bytes → List ℕ → List ℕ → Reply → Type 0
-Replied a src before cells (Done n) = Filled a src before cells n
-Replied a src before cells (Wrong p) = read a src ≡ broken p
-Replied a src before cells TooShort = Overfull a src cells
+abbrev pub Replied : Bool → Bytes → List ℕ → List ℕ → Result ℕ ReadError → Type 0
+Replied a src before cells (Ok n) = Filled a src before cells n
+Replied a src before cells (Err e) = Refused a src cells e

@@ -1,13 +1,11 @@
 -- What a step reads lies in the text: the bytes after the first that it passes, and its wrong byte, or that stands at the end.
-use Rattle.std.specs.Prelude.{◌≡◌, refl, Bool, true, false, [], ◌∷◌, ℕ, suc, ◌+◌, ◌≤◌, eqb, length, drop, get_or}
+use Rattle.std.specs.Prelude.{◌≡◌, refl, Bool, true, false, [], ◌∷◌, ℕ, suc, ◌+◌, ◌≤◌, eqb, length, drop, get_or, Result, Ok, Err}
 use Rattle.std.proofs.Common.{sym, subst, arith, eqb-true, length-drop}
 use Prim.Native.Char.{code}
 use Rattle.std.proofs.lemmas.Bool.{eqb-false}
 use Rattle.xml.specs.Bytes.{Bytes, bytes, is_white}
 use Rattle.xml.specs.Forest.{Forest}
 use Rattle.xml.specs.Read.{common, name_len, times_len, scan, Tag, tag_name, Stack, outer, inside, Move, move, wrong, is_end, start_of, end_of, characters, step}
-use Rattle.xml.specs.declared.Run.{Run}
-use Rattle.xml.specs.declared.Run.TheVariants.{Upto, Stop}
 use Rattle.xml.specs.ScanLaws.{name_len-fits, times_len-fits, common-fits}
 use Rattle.xml.specs.TextLaws.{RunIn, scan-range}
 use Rattle.xml.specs.StepLaws.{in-range, StartCase, none, opens, lone, slash, times, bad, start-case, tag-none, tag_open, tag-bad, tag-times, tag-slash, tag-empty, times-bad, times-good, times-end-bad, times-end-good, step-chars, chars-upto, chars-stop, end-good, end-bad, end_short, step_start, step_end, out-white, out-other, out-second, out-start}
@@ -80,12 +78,12 @@ end-in o g st f s m l = at (eqb m (length (tag_name o))) refl (eqb (get_or s m 0
     at true x false y = subst (In (suc (length s))) (sym (end-bad o g st f s m (eqb-true m (length (tag_name o)) x) (eqb-false (get_or s m 0) (code ">") y))) (omega arith)
     at false x y z = subst (In (suc (length s))) (sym (end_short o g st f s m (eqb-false m (length (tag_name o)) x))) (omega arith)
 
-chars-in : (st : Stack) (f : Forest) (b : ℕ) (s : Bytes) → (r : Run) → scan 0 0 0 (b ∷ s) ≡ r → In (length s) (characters st f (b ∷ s))
-chars-in st f b s (Upto k) e =
-    let g = subst (λ (y : Run). RunIn 0 (0 + suc (length s)) y) e (scan-range 0 0 0 (b ∷ s) (omega arith)) in
+chars-in : (st : Stack) (f : Forest) (b : ℕ) (s : Bytes) → (r : Result ℕ ℕ) → scan 0 0 0 (b ∷ s) ≡ r → In (length s) (characters st f (b ∷ s))
+chars-in st f b s (Ok k) e =
+    let g = subst (λ (y : Result ℕ ℕ). RunIn 0 (0 + suc (length s)) y) e (scan-range 0 0 0 (b ∷ s) (omega arith)) in
     subst (In (length s)) (sym (chars-upto st f (b ∷ s) k e)) (omega arith)
-chars-in st f b s (Stop k) e =
-    let g = subst (λ (y : Run). RunIn 0 (0 + suc (length s)) y) e (scan-range 0 0 0 (b ∷ s) (omega arith)) in
+chars-in st f b s (Err k) e =
+    let g = subst (λ (y : Result ℕ ℕ). RunIn 0 (0 + suc (length s)) y) e (scan-range 0 0 0 (b ∷ s) (omega arith)) in
     subst (In (length s)) (sym (chars-stop st f (b ∷ s) k e)) (omega arith)
 
 tags-in : (a : Bool) (o : Tag) (g : Forest) (st : Stack) (f : Forest) (b : ℕ) (s : Bytes) → b ≡ code "<" → In (length s) (step a (inside o g st) f (b ∷ s))

@@ -1,12 +1,11 @@
 -- Laws of one step of reading, and of `go` at a place of a text: a law for each case of a definition.
-use Rattle.std.specs.Prelude.{◌≡◌, refl, Bool, true, false, ◌&&◌, [], ◌∷◌, ℕ, zero, suc, ◌+◌, ◌-◌, ◌<◌, ◌≤◌, eqb, length, take, drop, get_or}
+use Rattle.std.specs.Prelude.{◌≡◌, refl, Bool, true, false, ◌&&◌, [], ◌∷◌, ℕ, zero, suc, ◌+◌, ◌-◌, ◌<◌, ◌≤◌, eqb, length, take, drop, get_or, Ok, Err}
 use Rattle.std.proofs.Common.{ap, ◌∙◌, add-zero, not-suc-le-zero, le_of_suc-le-suc, arith, drop_of_length-le, length-drop, drop-cons, drop-drop}
 use Prim.Native.Char.{code}
 use borrow.Author.Tests.{eq-eqb, ne_eqb, eqb-true, eqb-false}
 use Rattle.xml.specs.Bytes.{Bytes, bytes, same, is_white}
 use Rattle.xml.specs.Forest.{Forest, end, elem, text, join}
 use Rattle.xml.specs.Read.{common, times_len, unescape, scan, Tag, named, timed, tag_name, tag_node, Stack, outer, inside, move, wrong, whole, broken, is_end, times_end, times_of, start_of, start_tag, end_of, end_tag, characters, step, finish, go, read}
-use Rattle.xml.specs.declared.Run.TheVariants.{Upto, Stop}
 
 pub go-skip : (a : Bool) (st : Stack) (f : Forest) (at k : ℕ) (s : Bytes) → k ≤ length s → go a st f at k s ≡ go a st f (at + k) 0 (drop k s)
 unfolding go
@@ -53,12 +52,12 @@ pub step-chars : (a : Bool) (o : Tag) (g : Forest) (st : Stack) (f : Forest) (b 
 unfolding step
 step-chars a o g st f b s n = rw (ne_eqb b (code "<") n, step)
 
-pub chars-upto : (st : Stack) (f : Forest) (s : Bytes) (k : ℕ) → scan 0 0 0 s ≡ Upto k →
+pub chars-upto : (st : Stack) (f : Forest) (s : Bytes) (k : ℕ) → scan 0 0 0 s ≡ Ok k →
     characters st f s ≡ move st (join f (text (unescape 0 (take k s)) end)) (k - 1)
 unfolding characters
 chars-upto st f s k e = rw (e, characters)
 
-pub chars-stop : (st : Stack) (f : Forest) (s : Bytes) (k : ℕ) → scan 0 0 0 s ≡ Stop k → characters st f s ≡ wrong k
+pub chars-stop : (st : Stack) (f : Forest) (s : Bytes) (k : ℕ) → scan 0 0 0 s ≡ Err k → characters st f s ≡ wrong k
 unfolding characters
 chars-stop st f s k e = rw (e, characters)
 

@@ -1,5 +1,5 @@
 -- Stretches of a text in which a test answers the same at each byte, and how far runs of bytes go over them.
-use Rattle.std.specs.Prelude.{ℕ, zero, suc, ◌+◌, ◌-◌, ◌<◌, ◌≤◌, ◌≡◌, Bool, true, false, ◌||◌, ltb, length, drop, get_or}
+use Rattle.std.specs.Prelude.{ℕ, zero, suc, ◌+◌, ◌-◌, ◌<◌, ◌≤◌, ◌≡◌, Bool, true, false, not, ◌||◌, ltb, length, drop, get_or}
 use Rattle.std.proofs.Common.{zero-add, add-zero, arith, ap, sym, ◌∙◌, ltb-true, ltb-false, lt-ltb, le-ltb}
 use Rattle.std.proofs.Math.Seq.{slice}
 use Rattle.xml.specs.Bytes.{Bytes, is_times}
@@ -7,7 +7,7 @@ use Rattle.xml.specs.ByteTests.{is_plain, plain-next}
 use Rattle.xml.specs.Read.{times_len, scan}
 use Rattle.xml.specs.ScanLaws.{times_len-end, times_len-stop, times_len-more}
 use Rattle.xml.specs.Signs.{is_marked, plain_len}
-use Rattle.xml.specs.SignLaws.{plain_step}
+use Rattle.xml.specs.SignLaws.{plain-stop, plain_step, plain_over}
 use Rattle.xml.specs.TextLaws.{scan-on}
 use Rattle.xml.specs.Truth.{bool_by, by-test, or_left, or_right}
 
@@ -20,6 +20,11 @@ pub record Passed (f : ℕ → Bool) (t : Bool) (src : Bytes) (i e r : ℕ) : Ty
   pub forward : i ≤ r
   pub inside : r ≤ e
   pub each : Each f t src i r
+
+-- such a stretch that ends at e, or before a byte for which the test answers otherwise
+pub record Stopped (f : ℕ → Bool) (t : Bool) (src : Bytes) (i e r : ℕ) : Type 0 where
+  pub passed : Passed f t src i e r
+  pub stop : r < e → f (get_or src r 0) ≡ not t
 
 module _ {f : ℕ → Bool} {t : Bool} {src : Bytes} where
   pub each_none : {i e : ℕ} → e ≤ i → Each f t src i e
@@ -50,6 +55,10 @@ module _ {f : ℕ → Bool} {t : Bool} {src : Bytes} where
   pub passed_on : {i n m e r : ℕ} → Passed f t src i n m → Passed f t src m e r → Passed f t src i e r
   passed_on p q = record { forward = omega (arith, p.forward, q.forward); inside = q.inside; each = each-then p.each q.each }
 
+-- a stretch, and the next up to where that ends
+pub stopped-after : {f : ℕ → Bool} {t : Bool} {src : Bytes} {i n m e r : ℕ} → Passed f t src i n m → Stopped f t src m e r → Stopped f t src i e r
+stopped-after p s = record { passed = passed_on p s.passed; stop = s.stop }
+
 -- one byte more, where a hit among the bytes is noted
 pub no_hit : {f : ℕ → Bool} {t : Bool} {src : Bytes} {i j k : ℕ} (hit o : Bool) → (hit ≡ false → Each f t src i j) → (o ≡ false → f (get_or src j 0) ≡ t) →
     k ≤ j + 1 → (hit || o) ≡ false → Each f t src i k
@@ -67,6 +76,16 @@ pub plain-passed : {src : Bytes} {i e r : ℕ} → e ≤ length src → Passed i
     i + plain_len (slice i e src) ≡ r + plain_len (slice r e src)
 plain-passed {src} {i} {e} {r} k p =
     omega (arith, p.forward, plain-each src e r p.inside k (r - i) i (omega (arith, p.forward)) p.each)
+
+-- where the bytes that are written as they stand end
+pub plain-stopped : {src : Bytes} {i e r : ℕ} → e ≤ length src → Stopped is_marked false src i e r → r ≡ i + plain_len (slice i e src)
+plain-stopped {src} {i} {e} {r} k s =
+    let p = s.passed in
+    let none : plain_len (slice r e src) ≡ 0 =
+    by-test (ltb r e) (λ x. plain-stop src r e (ltb-true r e x) k (s.stop (ltb-true r e x)))
+    (λ x. let d : r ≡ e = omega (arith, p.inside, ltb-false r e x) in rw d (plain_over src e))
+    in
+    omega (arith, plain-passed k p)
 
 -- ---- plain bytes
 -- how many times `]` stand before the place e, where q stand before i and plain bytes between
@@ -109,17 +128,10 @@ scan-passed {src} {i} {r} q n p =
     let s : n ≡ n + (r - i) = omega arith in
     ap (λ (x : ℕ). scan q 0 n (drop x src)) m ∙ ap (λ (x : ℕ). scan q 0 x (drop r src)) s)
 
--- ---- bytes of times: they go from i to r, and r is e or the place of another byte
-pub record Times (src : Bytes) (i e r : ℕ) : Type 0 where
-  pub passed : Passed is_times true src i e r
-  pub stop : r < e → is_times (get_or src r 0) ≡ false
-
-pub times-within : {src : Bytes} {i m e r : ℕ} → Times src i m r → r < m → m ≤ e → Times src i e r
+-- ---- bytes of times
+pub times-within : {src : Bytes} {i m e r : ℕ} → Stopped is_times true src i m r → r < m → m ≤ e → Stopped is_times true src i e r
 times-within s h k =
     record { passed = record { forward = s.passed.forward; inside = omega arith; each = s.passed.each }; stop = λ g. s.stop h }
-
-pub times-after : {src : Bytes} {i m n e r : ℕ} → Passed is_times true src i n m → Times src m e r → Times src i e r
-times-after p s = record { passed = passed_on p s.passed; stop = s.stop }
 
 module _ (src : Bytes) (r : ℕ) (l : r ≤ length src) where
   times-each : (d i : ℕ) → i + d ≡ r → Each is_times true src i r → times_len (drop i src) ≡ d + times_len (drop r src)
@@ -128,7 +140,7 @@ module _ (src : Bytes) (r : ℕ) (l : r ≤ length src) where
       let b : Each is_times true src (i + 1) r = each_part a (omega arith) (omega arith) in
       omega (arith, times_len-more src i (i + 1) (omega arith) (a.at i (omega arith) (omega arith)) (omega arith), times-each d (i + 1) (omega arith) b)
 
-pub times-there : {src : Bytes} {i r : ℕ} → Times src i (length src) r → r - i ≡ times_len (drop i src)
+pub times-there : {src : Bytes} {i r : ℕ} → Stopped is_times true src i (length src) r → r - i ≡ times_len (drop i src)
 times-there {src} {i} {r} s =
     let p = s.passed in
     let none : times_len (drop r src) ≡ 0 =

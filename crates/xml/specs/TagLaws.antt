@@ -1,14 +1,12 @@
 -- What stands in a start tag: the tag that it means, how long it is, and that a tag as it is written spells itself.
-use Rattle.std.specs.Prelude.{ℕ, zero, suc, ◌+◌, ◌*◌, ◌≤◌, ◌≡◌, refl, Bool, true, false, not, ◌&&◌, ◌||◌, List, [], ◌∷◌, ◌++◌, map, eqb, length, take, drop, get_or}
+use Rattle.std.specs.Prelude.{ℕ, zero, suc, ◌+◌, ◌*◌, ◌≤◌, ◌≡◌, refl, Bool, true, false, not, ◌&&◌, ◌||◌, List, [], ◌∷◌, ◌++◌, map, eqb, length, take, drop, get_or, Ok}
 use Prim.Native.Char.{code}
 use Rattle.std.proofs.Common.{add-zero, le_of_suc-le-suc, arith, ap, ap₂, sym, ◌∙◌, subst, append_assoc, append-nil, eq-eqb, ne_eqb, eqb-true, length-append, length-drop, get_or-append-add, take-add}
 use Rattle.std.proofs.lemmas.Bool.{eqb-false}
 use Rattle.std.proofs.Math.Seq.{take-append_seam, drop-append_seam, drop-append-add}
 use Rattle.xml.specs.Bytes.{Bytes, bytes, any, all, same, is_legal, is_character, is_start, is_name_byte, is_name, among, bytes_compute}
-use Rattle.xml.specs.Tags.{Attr, attr, attr_name, escape_value, attr_text, less, insert, sort, tag_text, name_of, until, name_len_in, value_len_in, parts, is_quote, in_value, is_inline, Fine, Written, named_t, tags_compute}
-use Rattle.xml.specs.Tags.{bare as bare-tag, attributed as attributed-tag}
-use Rattle.xml.specs.Grammar.{Entity, lt, gt, amp, quot, apos, Characters, kept, joined, turned, entity, Attributes, none, more, StartTag, bare, attributed}
-use Rattle.xml.specs.Grammar.{none as no-characters}
+use Rattle.xml.specs.Tags.{Attr, attr, attr_name, escape_value, attr_text, less, insert, sort, tag_text, name_of, until, name_len_in, value_len_in, parts, is_quote, in_value, is_inline, Fine, Written, named_t, tags_compute, bare as bare-tag, attributed as attributed-tag}
+use Rattle.xml.specs.Grammar.{Entity, lt, gt, amp, quot, apos, Characters, kept, joined, turned, entity, Attributes, none, more, StartTag, bare, attributed, none as no-characters}
 use Rattle.xml.specs.Read.{name_len, attrs, tag_from, tag_len, means, tag_of}
 use Rattle.xml.specs.Truth.{by-test, clash, both, both_true, both_false, neither, or_swap, not_so}
 use Rattle.xml.specs.BytesLaws.{same-is, same_self}
@@ -20,7 +18,6 @@ use Rattle.xml.specs.Names.{name-all, name-some, name-first, name-taken, name-by
 use Rattle.xml.specs.Fresh.{new-name, new-unused, unused-new}
 use Rattle.xml.specs.Values.{no-return-first, all_append}
 use Rattle.xml.specs.Attrs.{After, more-text, more-long, attrs-all, attrs-range, attrs-sound}
-use Rattle.xml.specs.declared.Run.TheVariants.{Upto}
 
 -- ---- the parts of what stands in a tag
 pub until-all : (P : ℕ → Bool) (c : ℕ) (s t : Bytes) → ((b : ℕ) → P b ≡ true → eqb b c ≡ false) → all P s ≡ true → until c (s ++ c ∷ t) ≡ length s
@@ -244,7 +241,7 @@ start-bare {t = t} (attributed {n = n} {u = u} {l = l} e p r) h =
 
 -- ---- how long it is
 module _ (a : Bool) (s : Bytes) (n : ℕ) where
-  pub tag-short : eqb n 0 || a && same (take n s) (bytes "T") ≡ true → tag_from a s n ≡ Upto n
+  pub tag-short : eqb n 0 || a && same (take n s) (bytes "T") ≡ true → tag_from a s n ≡ Ok n
   unfolding tag_from
   tag-short e = rw (e, tag_from)
 
@@ -257,12 +254,12 @@ next-name n c t e d none = name-all n c t e d
 next-name n c t e d (more {n = m} {s = s} {u = u} q new quote k within r) =
     ap (λ (x : Bytes). name_len (n ++ x)) (more-text m s u (c ∷ t) q) ∙ name-all n (code " ") (After m q s (u ++ c ∷ t)) e space-name
 
-pub tag_len-all : {a : Bool} {w n t : Bytes} (c : ℕ) (s : Bytes) → StartTag a w n t → is_name_byte c ≡ false → (c ≡ code " " → ⊥) → tag_len a (w ++ c ∷ s) ≡ Upto (length w)
+pub tag_len-all : {a : Bool} {w n t : Bytes} (c : ℕ) (s : Bytes) → StartTag a w n t → is_name_byte c ≡ false → (c ≡ code " " → ⊥) → tag_len a (w ++ c ∷ s) ≡ Ok (length w)
 tag_len-all {a} c s (bare {n = n} e) d h =
     let S = n ++ c ∷ s in
     ap (tag_from a S) (name-all n c s e d)
     ∙ by-test (eqb (length n) 0 || a && same (take (length n) S) (bytes "T")) (λ x. tag-short a S (length n) x)
-    (λ x. tag-long a S (length n) x ∙ ap (attrs [] 0 (length n)) (drop-append_seam n (c ∷ s)) ∙ attrs-all (length n) c s none h ∙ ap Upto (add-zero (length n)))
+    (λ x. tag-long a S (length n) x ∙ ap (attrs [] 0 (length n)) (drop-append_seam n (c ∷ s)) ∙ attrs-all (length n) c s none h ∙ ap Ok (add-zero (length n)))
 tag_len-all {a} c s (attributed {n = n} {u = u} {l = l} e p r) d h =
     let v = u ++ c ∷ s in
     let S = n ++ v in
@@ -270,7 +267,7 @@ tag_len-all {a} c s (attributed {n = n} {u = u} {l = l} e p r) d h =
     neither (ne_eqb (length n) 0 (name-some n e)) (ap (λ (x : Bytes). a && same x (bytes "T")) (take-append_seam n v) ∙ p)
     in
     ap (tag_len a) (append_assoc n u (c ∷ s)) ∙ ap (tag_from a S) (next-name n c s e d r) ∙ tag-long a S (length n) q
-    ∙ ap (attrs [] 0 (length n)) (drop-append_seam n v) ∙ attrs-all (length n) c s r h ∙ ap Upto (sym (length-append n u))
+    ∙ ap (attrs [] 0 (length n)) (drop-append_seam n v) ∙ attrs-all (length n) c s r h ∙ ap Ok (sym (length-append n u))
 
 -- it lies in the text
 pub tag_len-range : (a : Bool) (s : Bytes) → (name_len s ≤ place (tag_len a s)) × (place (tag_len a s) ≤ length s)
@@ -286,10 +283,10 @@ pub record Tag (a : Bool) (w : Bytes) : Type 0 where
   pub tag : Bytes
   pub start : StartTag a w name tag
 
-pub tag_len-sound : (a : Bool) (s : Bytes) (n : ℕ) → tag_len a s ≡ Upto n → (n ≡ 0 → ⊥) → Tag a (take n s)
+pub tag_len-sound : (a : Bool) (s : Bytes) (n : ℕ) → tag_len a s ≡ Ok n → (n ≡ 0 → ⊥) → Tag a (take n s)
 tag_len-sound a s n e z =
     by-test (eqb m 0 || a && same (take m s) (bytes "T"))
-    (λ x. let i : Upto m ≡ Upto n = sym (tag-short a s m x) ∙ e in let j : m ≡ n = cc in short j)
+    (λ x. let i : Ok m ≡ Ok n = sym (tag-short a s m x) ∙ e in let j : m ≡ n = cc in short j)
     (λ x. long x (sym (tag-long a s m x) ∙ e))
   where
     m : ℕ
@@ -298,7 +295,7 @@ tag_len-sound a s n e z =
     short : name_len s ≡ n → Tag a (take n s)
     short j = let y : is_name (take n s) ≡ true = subst (λ (i : ℕ). is_name (take i s) ≡ true) j (name-taken s (λ i. z (sym j ∙ i))) in record { name = take n s; tag = take n s; start = bare y }
 
-    long : eqb (name_len s) 0 || a && same (take (name_len s) s) (bytes "T") ≡ false → attrs [] 0 (name_len s) (drop (name_len s) s) ≡ Upto n → Tag a (take n s)
+    long : eqb (name_len s) 0 || a && same (take (name_len s) s) (bytes "T") ≡ false → attrs [] 0 (name_len s) (drop (name_len s) s) ≡ Ok n → Tag a (take n s)
     long x h =
         let y = both_false (eqb (name_len s) 0) (a && same (take (name_len s) s) (bytes "T")) x in
         let t = attrs-sound (drop (name_len s) s) [] 0 (name_len s) n (omega arith) h in

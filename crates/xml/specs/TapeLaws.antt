@@ -1,5 +1,5 @@
 -- Laws of the tape: what it says of its first node, what a store elsewhere leaves as it is, and how it is written.
-use Rattle.std.specs.Prelude.{ℕ, zero, suc, ◌+◌, ◌*◌, ◌-◌, ◌%◌, ◌<◌, ◌≤◌, ◌≡◌, Bool, true, false, eqb, take, drop, get_or}
+use Rattle.std.specs.Prelude.{ℕ, zero, suc, ◌+◌, ◌*◌, ◌-◌, ◌%◌, ◌<◌, ◌≤◌, ◌≡◌, Bool, true, false, eqb, take, drop, get_or, Result, Ok, Err}
 use Prim.Native.Char.{code}
 use Rattle.std.proofs.Math.Path.{refl, ap}
 use Rattle.std.proofs.Common.{sym, ◌∙◌, zero-add, suc-add}
@@ -11,8 +11,6 @@ use borrow.Author.Tests.{eq-eqb, ne_eqb, eqb-true}
 use Rattle.xml.specs.Bytes.{Bytes, bytes}
 use Rattle.xml.specs.Forest.{Forest, end, elem, text, stamp, join, write, escape}
 use Rattle.xml.specs.Read.{entity_at, unescape}
-use Rattle.xml.specs.declared.Found.{Found}
-use Rattle.xml.specs.declared.Found.TheVariants.{Hit, Miss}
 use Rattle.xml.specs.Over.{Wrote}
 use Rattle.xml.specs.OverLaws.{wrote_none, wrote_then}
 use Rattle.xml.specs.Tape.{head_at, next_at, start_in, end_in, Node, Tape, at-end, at-text, at-elem, at-stamp, size, Writes}
@@ -104,16 +102,16 @@ length-unescape k [] = omega arith
 length-unescape (suc k) (b ∷ s) = omega (arith, length-unescape k s)
 length-unescape zero (b ∷ s) = at (eqb b (code "&")) (eqb b (code "\r")) (eqb (get_or s 0 0) (code "\n")) (entity_at s) (λ n. length-unescape n s)
   where
-    at : (t x y : Bool) (o : Found) → ((n : ℕ) → length (unescape n s) ≤ length s) →
+    at : (t x y : Bool) (o : Result (ℕ × ℕ) ℕ) → ((n : ℕ) → length (unescape n s) ≤ length s) →
         length {A = ℕ} (elim t [
           | false ↦ elim x [ false ↦ b ∷ unescape 0 s | true ↦ elim y [ true ↦ unescape 0 s | false ↦ code "\n" ∷ unescape 0 s ] ]
-          | true ↦ elim o [ Hit n c ↦ c ∷ unescape n s | Miss n ↦ b ∷ unescape 0 s ]
+          | true ↦ elim o [ Ok (n, c) ↦ c ∷ unescape n s | Err n ↦ b ∷ unescape 0 s ]
         ]) ≤ suc (length s)
     at false false y o f = omega (arith, f 0)
     at false true true o f = omega (arith, f 0)
     at false true false o f = omega (arith, f 0)
-    at true x y (Hit n c) f = omega (arith, f n)
-    at true x y (Miss n) f = omega (arith, f 0)
+    at true x y (Ok (n, c)) f = omega (arith, f n)
+    at true x y (Err n) f = omega (arith, f 0)
 
 module _ {src cells : List ℕ} where
   pub tape-le : {p q : ℕ} {f : Forest} → Tape src cells p q f → p ≤ q

@@ -1,6 +1,6 @@
 -- How many bytes a node takes: a start tag three at least, and a run of text is followed by a tag. So a text has a cell a byte at most.
 use Prim.Native.Char.{code}
-use Rattle.std.specs.Prelude.{ℕ, ◌+◌, ◌<◌, ◌≤◌, ◌≡◌, Bool, [], ◌∷◌, ◌++◌, length, drop, get_or}
+use Rattle.std.specs.Prelude.{ℕ, ◌+◌, ◌<◌, ◌≤◌, ◌≡◌, Bool, [], ◌∷◌, ◌++◌, length, drop, get_or, Ok}
 use Rattle.std.proofs.Common.{sym, ap, ◌∙◌, subst, arith, length-append}
 use Rattle.std.proofs.lemmas.List.{get_or_at}
 use Rattle.xml.specs.Bytes.{Bytes, bytes}
@@ -9,7 +9,6 @@ use Rattle.xml.specs.Read.{common, name_len, scan, Stack, Move, move, wrong, sta
 use Rattle.xml.specs.Runs.{Ends, scan-sound}
 use Rattle.xml.specs.StepLaws.{StartCase, none, opens, lone, slash, times, bad, start-case, tag-none, tag_open, tag-bad, tag-times, tag-slash, tag-empty}
 use Rattle.xml.specs.TimedTags.{reach_t, times-reach}
-use Rattle.xml.specs.declared.Run.TheVariants.{Upto}
 
 -- a step that goes on reads two bytes more at least
 abbrev pub Far : Move → Type 0
@@ -37,7 +36,7 @@ start-far a st f s = at (start-case a s (name_len s))
     at (bad z b d t) = subst Far (sym (tag-bad a st f s n z b d t)) tt
 
 -- a `<` stands after a run of text, or nothing
-pub run-then : (s : Bytes) (k : ℕ) → scan 0 0 0 s ≡ Upto k → k < length s → get_or s k 0 ≡ code "<"
+pub run-then : (s : Bytes) (k : ℕ) → scan 0 0 0 s ≡ Ok k → k < length s → get_or s k 0 ≡ code "<"
 run-then s k e h =
     let x = scan-sound s 0 0 0 k (omega arith) e in
     at x.raw x.rest x.is x.long x.ends

@@ -1,5 +1,5 @@
--- What a test that answers true or false says: of `&&`, `||`, and of the elements of a list.
-use Rattle.std.specs.Prelude.{ℕ, ◌≡◌, Bool, ◌&&◌, ◌||◌}
+-- What a test that answers true or false says: of `&&`, `||`, and of the elements of a list; and what equal answers hold.
+use Rattle.std.specs.Prelude.{ℕ, ◌≡◌, Bool, ◌&&◌, ◌||◌, Some, Result, Ok}
 use Rattle.std.proofs.Common.{arith, sym, ◌∙◌}
 use Rattle.std.proofs.Math.Path.{refl, ap}
 use Rattle.std.proofs.Math.Bool.{true, false}
@@ -8,6 +8,13 @@ use Rattle.xml.specs.Bytes.{any, all}
 
 pub clash : {A : Type 0} → true ≡ false → A
 clash e = let z : ◌≡◌ {A = ℕ} 0 1 = cc in absurd (omega arith)
+
+-- equal answers hold the same
+pub ok-inj : {A E : Type 0} {x y : A} → ◌≡◌ {A = Result A E} (Ok x) (Ok y) → x ≡ y
+ok-inj e = cc
+
+pub some-inj : {A : Type 0} {x y : A} → Some x ≡ Some y → x ≡ y
+some-inj e = cc
 
 pub bool_by : (G : Bool → Type 0) (b : Bool) → (b ≡ true → G true) → (b ≡ false → G false) → G b
 bool_by G true f g = f refl

@@ -1,24 +1,21 @@
 -- Which bytes a value may have, by comparing; and a value's scan at places of a text.
-use Rattle.std.specs.Prelude.{ℕ, ◌+◌, ◌-◌, ◌≤◌, ◌<◌, ◌≡◌, refl, Bool, ◌&&◌, ◌||◌, leb, length, drop, get_or}
+use Rattle.std.specs.Prelude.{ℕ, ◌+◌, ◌-◌, ◌≤◌, ◌<◌, ◌≡◌, refl, Bool, ◌&&◌, ◌||◌, leb, length, drop, get_or, Result, Ok, Err, Option, Some, None}
 use Prim.Native.Char.{code}
 use Rattle.std.proofs.Common.{arith, ap, sym, ◌∙◌, subst, length-drop, drop_of_length-le, drop-drop}
 use Rattle.std.proofs.Math.Bool.{true, false, not}
 use borrow.Author.Tests.{ne_eqb, lt-leb, leb-true, leb-false}
 use Rattle.std.proofs.Math.Dec.{eqb}
-use Rattle.xml.specs.Bytes.{Bytes, among, within, is_letter, is_digit, is_character, illegal, white, start, other, markup, plain}
+use Rattle.xml.specs.Bytes.{Bytes, among, within, is_letter, is_digit, is_character}
+use Rattle.xml.specs.declared.class.ByteClass.TheVariants.{Illegal, White, Start, Other, Markup, Plain}
 use Rattle.xml.specs.Tags.{in_value, tags_compute}
 use Rattle.xml.specs.Read.{value_byte, value}
 use Rattle.xml.specs.Truth.{by-test, clash, both, and_left, and-false, neither, or-second}
 use Rattle.xml.specs.GrammarLaws.{class_by, legal-character, lt-markup}
 use Rattle.xml.specs.TextLaws.{at-cons}
 use Rattle.xml.specs.Values.{ValueCase, over, hit, miss, plain as value-plain, off, value-case, value_turn, value-cons, value-skip, found-fits}
-use Rattle.xml.specs.declared.Found.TheVariants.{Hit, Miss}
-use Rattle.xml.specs.declared.Next.{Next}
-use Rattle.xml.specs.declared.Next.TheVariants.{Over, On, Off}
-use Rattle.xml.specs.declared.Run.TheVariants.{Upto, Stop}
 
 -- ---- the bytes
-class-legal : (w n d m p : Bool) → p ≡ true → elim (class_by w n d m p) [ illegal ↦ false | white ↦ true | start ↦ true | other ↦ true | markup ↦ true | plain ↦ true ] ≡ true
+class-legal : (w n d m p : Bool) → p ≡ true → elim (class_by w n d m p) [ Illegal ↦ false | White ↦ true | Start ↦ true | Other ↦ true | Markup ↦ true | Plain ↦ true ] ≡ true
 class-legal true n d m p e = refl
 class-legal false true d m p e = refl
 class-legal false false true m p e = refl
@@ -27,7 +24,7 @@ class-legal false false false false true e = refl
 class-legal false false false false false e = e
 
 class-none : (w n d m p : Bool) → w ≡ false → n ≡ false → d ≡ false → p ≡ false →
-    elim (class_by w n d m p) [ illegal ↦ false | white ↦ true | start ↦ true | other ↦ true | markup ↦ false | plain ↦ true ] ≡ false
+    elim (class_by w n d m p) [ Illegal ↦ false | White ↦ true | Start ↦ true | Other ↦ true | Markup ↦ false | Plain ↦ true ] ≡ false
 class-none true n d m p e f g h = e
 class-none false true d m p e f g h = f
 class-none false false true m p e f g h = g
@@ -101,41 +98,41 @@ pass-start {src} {at} {q} e h =
     let z : at - at ≡ 0 = omega arith in
     rw e (record { from = omega arith; to = h; is = rw z refl })
 
-abbrev Told : ℕ → Next → Type 0
-Told m Over = 0 ≤ m
-Told m (On k r) = k ≤ m
-Told m (Off k) = k ≤ 1 + m
+abbrev Told : ℕ → Result (Option (ℕ × ℕ)) ℕ → Type 0
+Told m (Ok None) = 0 ≤ m
+Told m (Ok (Some (k, r))) = k ≤ m
+Told m (Err k) = k ≤ 1 + m
 
 told : (q b : ℕ) (s : Bytes) → Told (length s) (value_byte q b s)
 told q b s = go (value_byte q b s) (value-case q b s)
   where
-    go : (o : Next) → ValueCase q b s o → Told (length s) o
+    go : (o : Result (Option (ℕ × ℕ)) ℕ) → ValueCase q b s o → Told (length s) o
     go o (over e) = omega arith
-    go o (hit {k = k} {c = c} x y z) = found-fits s (Hit k c) z
-    go o (miss {k = k} x y z) = let l : k ≤ length s = found-fits s (Miss k) z in omega arith
+    go o (hit {k = k} {c = c} x y z) = found-fits s (Ok (k, c)) z
+    go o (miss {k = k} x y z) = let l : k ≤ length s = found-fits s (Err k) z in omega arith
     go o (value-plain x y z) = omega arith
     go o (off x y z) = omega arith
 
 module _ {src : Bytes} {at q j : ℕ} (x : Passed src at q j) (h : j < length src) where
-  abbrev Here : Next
+  abbrev Here : Result (Option (ℕ × ℕ)) ℕ
   Here = value_byte q (get_or src j 0) (drop (j + 1) src)
 
-  turned : (o : Next) → Here ≡ o → value q 0 0 (drop at src) ≡ value_turn q (j - at) (drop (j + 1) src) o
+  turned : (o : Result (Option (ℕ × ℕ)) ℕ) → Here ≡ o → value q 0 0 (drop at src) ≡ value_turn q (j - at) (drop (j + 1) src) o
   turned o e = x.is ∙ ap (value q 0 (j - at)) (at-cons src 0 0 j h) ∙ value-cons q (j - at) (get_or src j 0) (drop (j + 1) src) ∙ ap (value_turn q (j - at) (drop (j + 1) src)) e
 
-  pub pass-over : Here ≡ Over → value q 0 0 (drop at src) ≡ Upto (j - at)
-  pass-over e = turned Over e
+  pub pass-over : Here ≡ Ok None → value q 0 0 (drop at src) ≡ Ok (j - at)
+  pass-over e = turned (Ok None) e
 
-  pub pass-off : (k : ℕ) → Here ≡ Off k → value q 0 0 (drop at src) ≡ Stop (j - at + k)
-  pass-off k e = turned (Off k) e
+  pub pass-off : (k : ℕ) → Here ≡ Err k → value q 0 0 (drop at src) ≡ Err (j - at + k)
+  pass-off k e = turned (Err k) e
 
-  pub off-fits : (k : ℕ) → Here ≡ Off k → j + k ≤ length src
+  pub off-fits : (k : ℕ) → Here ≡ Err k → j + k ≤ length src
   off-fits k e = omega (arith, subst (Told (length (drop (j + 1) src))) e (told q (get_or src j 0) (drop (j + 1) src)), length-drop (j + 1) src)
 
-  pub on_fits : (k r : ℕ) → Here ≡ On k r → j + 1 + k ≤ length src
+  pub on_fits : (k r : ℕ) → Here ≡ Ok (Some (k, r)) → j + 1 + k ≤ length src
   on_fits k r e = omega (arith, subst (Told (length (drop (j + 1) src))) e (told q (get_or src j 0) (drop (j + 1) src)), length-drop (j + 1) src)
 
-  pub pass_on : (k r : ℕ) (j' : ℕ) → Here ≡ On k r → j' ≡ j + 1 + k → Passed src at q j'
+  pub pass_on : (k r : ℕ) (j' : ℕ) → Here ≡ Ok (Some (k, r)) → j' ≡ j + 1 + k → Passed src at q j'
   pass_on k r j' e d =
       let f = on_fits k r e in
       let l : k ≤ length (drop (j + 1) src) = omega (arith, length-drop (j + 1) src) in
@@ -144,10 +141,10 @@ module _ {src : Bytes} {at q j : ℕ} (x : Passed src at q j) (h : j < length sr
       record {
         from = omega arith;
         to = omega arith;
-        is = turned (On k r) e ∙ value-skip q k (j - at + 1) (drop (j + 1) src) l ∙ ap (λ (i : ℕ). value q 0 i (drop k (drop (j + 1) src))) m
+        is = turned (Ok (Some (k, r))) e ∙ value-skip q k (j - at + 1) (drop (j + 1) src) l ∙ ap (λ (i : ℕ). value q 0 i (drop k (drop (j + 1) src))) m
             ∙ ap (value q 0 (j' - at)) (drop-drop k (j + 1) src ∙ ap (λ (i : ℕ). drop i src) (sym d));
       }
 
-pub pass-end : {src : Bytes} {at q j : ℕ} → Passed src at q j → length src ≤ j → value q 0 0 (drop at src) ≡ Stop (j - at)
+pub pass-end : {src : Bytes} {at q j : ℕ} → Passed src at q j → length src ≤ j → value q 0 0 (drop at src) ≡ Err (j - at)
 unfolding value
 pass-end {src} {at} {q} {j} x h = x.is ∙ ap (value q 0 (j - at)) (drop_of_length-le src h)

@@ -1,5 +1,5 @@
 -- An attribute's value is scanned to its closing quote, and what is scanned to a quote is one.
-use Rattle.std.specs.Prelude.{ℕ, zero, suc, ◌+◌, ◌≤◌, ◌<◌, ◌≡◌, Bool, not, ◌&&◌, ◌||◌, [], ◌∷◌, ◌++◌, ◌⊎◌, length, drop}
+use Rattle.std.specs.Prelude.{ℕ, zero, suc, ◌+◌, ◌≤◌, ◌<◌, ◌≡◌, Bool, not, ◌&&◌, ◌||◌, [], ◌∷◌, ◌++◌, ◌⊎◌, length, drop, Result, Ok, Err, Option, Some, None}
 use Prim.Native.Char.{code}
 use Rattle.std.proofs.Common.{add-zero, not-suc-le-zero, le_of_suc-le-suc, arith, ap, sym, ◌∙◌, subst, append_assoc, inl, inr, ⊎_elim, length-append}
 use Rattle.std.proofs.Math.Path.{refl}
@@ -15,12 +15,6 @@ use Rattle.xml.specs.Truth.{by-test, clash, both, both_true}
 use Rattle.xml.specs.GrammarLaws.{character-not, amp-markup}
 use Rattle.xml.specs.ScanLaws.{found_len, entity-fits}
 use Rattle.xml.specs.Words.{signed}
-use Rattle.xml.specs.declared.Found.{Found}
-use Rattle.xml.specs.declared.Found.TheVariants.{Hit, Miss}
-use Rattle.xml.specs.declared.Next.{Next}
-use Rattle.xml.specs.declared.Next.TheVariants.{Over, On, Off}
-use Rattle.xml.specs.declared.Run.{Run}
-use Rattle.xml.specs.declared.Run.TheVariants.{Upto, Stop}
 
 -- ---- quotes
 pub quote-is : (q : ℕ) → is_quote q ≡ true → (q ≡ code "\"") ⊎ (q ≡ code "'")
@@ -35,52 +29,52 @@ amp-quote q e = by-quote (λ (x : ℕ). code "&" ≡ x → ⊥) q e (λ h. eqb-f
 
 -- ---- a byte of a value
 module _ (q b : ℕ) (s : Bytes) where
-  pub value-over : b ≡ q → value_byte q b s ≡ Over
+  pub value-over : b ≡ q → value_byte q b s ≡ Ok None
   unfolding value_byte
   value-over e = rw (eq-eqb b q e, value_byte)
 
-  pub value-hit : (k c : ℕ) → (b ≡ q → ⊥) → b ≡ code "&" → entity_at s ≡ Hit k c → value_byte q b s ≡ On k 0
+  pub value-hit : (k c : ℕ) → (b ≡ q → ⊥) → b ≡ code "&" → entity_at s ≡ Ok (k, c) → value_byte q b s ≡ Ok (Some (k, 0))
   unfolding value_byte
   value-hit k c n e h = rw (ne_eqb b q n, eq-eqb b (code "&") e, h, value_byte)
 
-  pub value-miss : (k : ℕ) → (b ≡ q → ⊥) → b ≡ code "&" → entity_at s ≡ Miss k → value_byte q b s ≡ Off (1 + k)
+  pub value-miss : (k : ℕ) → (b ≡ q → ⊥) → b ≡ code "&" → entity_at s ≡ Err k → value_byte q b s ≡ Err (1 + k)
   unfolding value_byte
   value-miss k n e h = rw (ne_eqb b q n, eq-eqb b (code "&") e, h, value_byte)
 
-  pub value-kept : (b ≡ q → ⊥) → (b ≡ code "&" → ⊥) → is_character b && in_value q b ≡ true → value_byte q b s ≡ On 0 0
+  pub value-kept : (b ≡ q → ⊥) → (b ≡ code "&" → ⊥) → is_character b && in_value q b ≡ true → value_byte q b s ≡ Ok (Some (0, 0))
   unfolding value_byte
   value-kept n m e = rw (ne_eqb b q n, ne_eqb b (code "&") m, e, value_byte)
 
-  pub value-off : (b ≡ q → ⊥) → (b ≡ code "&" → ⊥) → is_character b && in_value q b ≡ false → value_byte q b s ≡ Off 0
+  pub value-off : (b ≡ q → ⊥) → (b ≡ code "&" → ⊥) → is_character b && in_value q b ≡ false → value_byte q b s ≡ Err 0
   unfolding value_byte
   value-off n m e = rw (ne_eqb b q n, ne_eqb b (code "&") m, e, value_byte)
 
-  pub data ValueCase : Next → Type 0 where
-    over : b ≡ q → ValueCase Over
-    hit : {k c : ℕ} → (b ≡ q → ⊥) → b ≡ code "&" → entity_at s ≡ Hit k c → ValueCase (On k 0)
-    miss : {k : ℕ} → (b ≡ q → ⊥) → b ≡ code "&" → entity_at s ≡ Miss k → ValueCase (Off (1 + k))
-    plain : (b ≡ q → ⊥) → (b ≡ code "&" → ⊥) → is_character b && in_value q b ≡ true → ValueCase (On 0 0)
-    off : (b ≡ q → ⊥) → (b ≡ code "&" → ⊥) → is_character b && in_value q b ≡ false → ValueCase (Off 0)
+  pub data ValueCase : Result (Option (ℕ × ℕ)) ℕ → Type 0 where
+    over : b ≡ q → ValueCase (Ok None)
+    hit : {k c : ℕ} → (b ≡ q → ⊥) → b ≡ code "&" → entity_at s ≡ Ok (k, c) → ValueCase (Ok (Some (k, 0)))
+    miss : {k : ℕ} → (b ≡ q → ⊥) → b ≡ code "&" → entity_at s ≡ Err k → ValueCase (Err (1 + k))
+    plain : (b ≡ q → ⊥) → (b ≡ code "&" → ⊥) → is_character b && in_value q b ≡ true → ValueCase (Ok (Some (0, 0)))
+    off : (b ≡ q → ⊥) → (b ≡ code "&" → ⊥) → is_character b && in_value q b ≡ false → ValueCase (Err 0)
 
   pub value-case : ValueCase (value_byte q b s)
   unfolding value_byte
   value-case = at (eqb b q) refl (eqb b (code "&")) refl (entity_at s) refl (is_character b && in_value q b) refl
     where
-      at : (x : Bool) → eqb b q ≡ x → (y : Bool) → eqb b (code "&") ≡ y → (o : Found) → entity_at s ≡ o → (z : Bool) → is_character b && in_value q b ≡ z →
+      at : (x : Bool) → eqb b q ≡ x → (y : Bool) → eqb b (code "&") ≡ y → (o : Result (ℕ × ℕ) ℕ) → entity_at s ≡ o → (z : Bool) → is_character b && in_value q b ≡ z →
           ValueCase
           (elim x [
-            | true ↦ Over
-            | false ↦ elim y [ true ↦ elim o [ Hit k c ↦ On k 0 | Miss k ↦ Off (1 + k) ] | false ↦ elim z [ true ↦ On 0 0 | false ↦ Off 0 ] ]
+            | true ↦ Ok None
+            | false ↦ elim y [ true ↦ elim o [ Ok (k, c) ↦ Ok (Some (k, 0)) | Err k ↦ Err (1 + k) ] | false ↦ elim z [ true ↦ Ok (Some (0, 0)) | false ↦ Err 0 ] ]
           ])
       at true x y g o h z i = over (eqb-true b q x)
-      at false x true g (Hit k c) h z i = hit (eqb-false b q x) (eqb-true b (code "&") g) h
-      at false x true g (Miss k) h z i = miss (eqb-false b q x) (eqb-true b (code "&") g) h
+      at false x true g (Ok (k, c)) h z i = hit (eqb-false b q x) (eqb-true b (code "&") g) h
+      at false x true g (Err k) h z i = miss (eqb-false b q x) (eqb-true b (code "&") g) h
       at false x false g o h true i = plain (eqb-false b q x) (eqb-false b (code "&") g) i
       at false x false g o h false i = off (eqb-false b q x) (eqb-false b (code "&") g) i
 
 -- ---- how far it goes
-abbrev pub value_turn : ℕ → ℕ → Bytes → Next → Run
-value_turn q n s o = elim o [ Over ↦ Upto n | On k r ↦ value q k (n + 1) s | Off k ↦ Stop (n + k) ]
+abbrev pub value_turn : ℕ → ℕ → Bytes → Result (Option (ℕ × ℕ)) ℕ → Result ℕ ℕ
+value_turn q n s o = elim o [ Ok None ↦ Ok n | Ok (Some (k, r)) ↦ value q k (n + 1) s | Err k ↦ Err (n + k) ]
 
 pub value-cons : (q n b : ℕ) (s : Bytes) → value q 0 n (b ∷ s) ≡ value_turn q n s (value_byte q b s)
 unfolding value
@@ -93,16 +87,16 @@ value-skip q (suc k) n [] h = absurd (not-suc-le-zero h)
 value-skip q (suc k) n (b ∷ s) h = value-skip q k (n + 1) s (le_of_suc-le-suc h) ∙ ap (λ (m : ℕ). value q 0 m (drop k s)) (omega arith)
 
 -- from lo on: up to a quote before hi, or a wrong byte at hi at most
-abbrev pub ValueIn : ℕ → ℕ → Run → Type 0
-ValueIn lo hi (Upto m) = (lo ≤ m) × (m < hi)
-ValueIn lo hi (Stop m) = (lo ≤ m) × (m ≤ hi)
+abbrev pub ValueIn : ℕ → ℕ → Result ℕ ℕ → Type 0
+ValueIn lo hi (Ok m) = (lo ≤ m) × (m < hi)
+ValueIn lo hi (Err m) = (lo ≤ m) × (m ≤ hi)
 
-value-wider : (lo hi lo' hi' : ℕ) (r : Run) → lo' ≤ lo → hi ≤ hi' → ValueIn lo hi r → ValueIn lo' hi' r
-value-wider lo hi lo' hi' (Upto m) a b h = omega arith
-value-wider lo hi lo' hi' (Stop m) a b h = omega arith
+value-wider : (lo hi lo' hi' : ℕ) (r : Result ℕ ℕ) → lo' ≤ lo → hi ≤ hi' → ValueIn lo hi r → ValueIn lo' hi' r
+value-wider lo hi lo' hi' (Ok m) a b h = omega arith
+value-wider lo hi lo' hi' (Err m) a b h = omega arith
 
-pub found-fits : (s : Bytes) (o : Found) → entity_at s ≡ o → found_len o ≤ length s
-found-fits s o e = subst (λ (z : Found). found_len z ≤ length s) e (entity-fits s)
+pub found-fits : (s : Bytes) (o : Result (ℕ × ℕ) ℕ) → entity_at s ≡ o → found_len o ≤ length s
+found-fits s o e = subst (λ (z : Result (ℕ × ℕ) ℕ). found_len z ≤ length s) e (entity-fits s)
 
 pub value-range : (q k n : ℕ) (s : Bytes) → k ≤ length s → ValueIn (n + k) (n + length s) (value q k n s)
 unfolding value
@@ -111,12 +105,12 @@ value-range q (suc k) n (b ∷ s) h =
     value-wider (n + 1 + k) (n + 1 + length s) (n + suc k) (n + suc (length s)) (value q k (n + 1) s) (omega arith) (omega arith) (value-range q k (n + 1) s (le_of_suc-le-suc h))
 value-range q zero n (b ∷ s) h = turn (value_byte q b s) (value-case q b s) (λ k g. value-range q k (n + 1) s g)
   where
-    turn : (o : Next) → ValueCase q b s o → ((k : ℕ) → k ≤ length s → ValueIn (n + 1 + k) (n + 1 + length s) (value q k (n + 1) s)) →
+    turn : (o : Result (Option (ℕ × ℕ)) ℕ) → ValueCase q b s o → ((k : ℕ) → k ≤ length s → ValueIn (n + 1 + k) (n + 1 + length s) (value q k (n + 1) s)) →
         ValueIn (n + 0) (n + suc (length s)) (value_turn q n s o)
     turn o (over e) f = omega arith
     turn o (hit {k = k} {c = c} x y z) f =
-        value-wider (n + 1 + k) (n + 1 + length s) (n + 0) (n + suc (length s)) (value q k (n + 1) s) (omega arith) (omega arith) (f k (found-fits s (Hit k c) z))
-    turn o (miss {k = k} x y z) f = let l : k ≤ length s = found-fits s (Miss k) z in omega arith
+        value-wider (n + 1 + k) (n + 1 + length s) (n + 0) (n + suc (length s)) (value q k (n + 1) s) (omega arith) (omega arith) (f k (found-fits s (Ok (k, c)) z))
+    turn o (miss {k = k} x y z) f = let l : k ≤ length s = found-fits s (Err k) z in omega arith
     turn o (plain x y z) f =
         value-wider (n + 1 + 0) (n + 1 + length s) (n + 0) (n + suc (length s)) (value q 0 (n + 1) s) (omega arith) (omega arith) (f 0 (omega arith))
     turn o (off x y z) f = omega arith
@@ -139,7 +133,7 @@ in-not : (q b : ℕ) → in_value q b ≡ true → b ≡ q → ⊥
 unfolding in_value
 in-not q b e h = clash (sym e ∙ rw (eq-eqb b q h))
 
-value-word : (q n c : ℕ) (w s : Bytes) → is_quote q ≡ true → entity_at (w ++ s) ≡ Hit (length w) c → value q 0 n (code "&" ∷ (w ++ s)) ≡ value q 0 (n + suc (length w)) s
+value-word : (q n c : ℕ) (w s : Bytes) → is_quote q ≡ true → entity_at (w ++ s) ≡ Ok (length w, c) → value q 0 n (code "&" ∷ (w ++ s)) ≡ value q 0 (n + suc (length w)) s
 value-word q n c w s h e =
     let l : length w ≤ length (w ++ s) = omega (arith, length-append w s) in
     let m : n + 1 + length w ≡ n + suc (length w) = omega arith in
@@ -167,9 +161,9 @@ pub no-return-first : (q b : ℕ) (s : Bytes) → all (in_value q) (b ∷ s) ≡
 unfolding all
 no-return-first q b s a = no_return q b (both_true (in_value q b) (all (in_value q) s) a).0
 
-pub value-all : {s v : Bytes} (q n : ℕ) (u : Bytes) → is_quote q ≡ true → Characters s v → all (in_value q) s ≡ true → value q 0 n (s ++ q ∷ u) ≡ Upto (n + length s)
+pub value-all : {s v : Bytes} (q n : ℕ) (u : Bytes) → is_quote q ≡ true → Characters s v → all (in_value q) s ≡ true → value q 0 n (s ++ q ∷ u) ≡ Ok (n + length s)
 unfolding all
-value-all q n u h none a = value-cons q n q u ∙ ap (value_turn q n u) (value-over q q u refl) ∙ ap Upto (sym (add-zero n))
+value-all q n u h none a = value-cons q n q u ∙ ap (value_turn q n u) (value-over q q u refl) ∙ ap Ok (sym (add-zero n))
 value-all q n u h (joined {b = b} {s = s} r f c) a = absurd (no-return-first q b s a r)
 value-all q n u h (turned {b = b} {s = s} r f c) a = absurd (no-return-first q b s a r)
 value-all q n u h (kept {b = b} {s = s} e r c) a =
@@ -177,11 +171,11 @@ value-all q n u h (kept {b = b} {s = s} e r c) a =
     let m : n + 1 + length s ≡ n + suc (length s) = omega arith in
     value-cons q n b (s ++ q ∷ u)
     ∙ ap (value_turn q n (s ++ q ∷ u)) (value-kept q b (s ++ q ∷ u) (in-not q b i.0) (character-not b (code "&") amp-markup e) (both e i.0))
-    ∙ value-all q (n + 1) u h c i.1 ∙ ap Upto m
+    ∙ value-all q (n + 1) u h c i.1 ∙ ap Ok m
 value-all q n u h (entity {e = e} {s = s} i c) a =
     let m : n + length e + length s ≡ n + length (e ++ s) = omega (arith, length-append e s) in
     ap (value q 0 n) (append_assoc e s (q ∷ u)) ∙ value-entity q n (s ++ q ∷ u) h i
-    ∙ value-all q (n + length e) u h c (all_both (in_value q) e s a).1 ∙ ap Upto m
+    ∙ value-all q (n + length e) u h c (all_both (in_value q) e s a).1 ∙ ap Ok m
 
 -- ---- what is scanned is a value, and a quote stands after it
 pub record Valued (q n m : ℕ) (s : Bytes) : Type 0 where
@@ -201,10 +195,10 @@ entity-in q h amp = by-quote (λ (x : ℕ). all (in_value x) (bytes "&amp;") ≡
 entity-in q h quot = by-quote (λ (x : ℕ). all (in_value x) (bytes "&quot;") ≡ true) q h refl refl
 entity-in q h apos = by-quote (λ (x : ℕ). all (in_value x) (bytes "&apos;") ≡ true) q h refl refl
 
-run-apart : {A : Type 0} (m p : ℕ) → Stop m ≡ Upto p → A
+run-apart : {A : Type 0} (m p : ℕ) → Err m ≡ Ok p → A
 run-apart m p e = let z : ◌≡◌ {A = ℕ} 0 1 = cc in absurd (omega arith)
 
-pub value-sound : (s : Bytes) (q k n m : ℕ) → is_quote q ≡ true → k ≤ length s → value q k n s ≡ Upto m → Valued q (n + k) m (drop k s)
+pub value-sound : (s : Bytes) (q k n m : ℕ) → is_quote q ≡ true → k ≤ length s → value q k n s ≡ Ok m → Valued q (n + k) m (drop k s)
 unfolding value all
 value-sound [] q k n m h l e = run-apart n m e
 value-sound (b ∷ s) q (suc k) n m h l e =
@@ -213,14 +207,14 @@ value-sound (b ∷ s) q (suc k) n m h l e =
 value-sound (b ∷ s) q zero n m h l e =
     subst (λ (x : ℕ). Valued q x m (b ∷ s)) (sym (add-zero n)) (turn (value_byte q b s) (value-case q b s) (λ k g f. value-sound s q k (n + 1) m h g f) e)
   where
-    turn : (o : Next) → ValueCase q b s o → ((k : ℕ) → k ≤ length s → value q k (n + 1) s ≡ Upto m → Valued q (n + 1 + k) m (drop k s)) →
-        value_turn q n s o ≡ Upto m → Valued q n m (b ∷ s)
+    turn : (o : Result (Option (ℕ × ℕ)) ℕ) → ValueCase q b s o → ((k : ℕ) → k ≤ length s → value q k (n + 1) s ≡ Ok m → Valued q (n + 1 + k) m (drop k s)) →
+        value_turn q n s o ≡ Ok m → Valued q n m (b ∷ s)
     turn o (over x) f g =
         let i : n ≡ m = cc in
         record { raw = []; rest = s; meaning = []; is = ap (λ (y : ℕ). y ∷ s) x; long = omega arith; means = none; within = refl }
     turn o (hit {k = k} {c = c} x y z) f g =
         let w = signed s k c z in
-        let r = f k (found-fits s (Hit k c) z) g in
+        let r = f k (found-fits s (Ok (k, c)) z) g in
         let i = r.long in
         record {
           raw = w.sign ++ r.raw;

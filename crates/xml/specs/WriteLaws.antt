@@ -2,7 +2,7 @@
 use Rattle.std.specs.Prelude.{ℕ, ◌+◌, ◌-◌, ◌%◌, ◌^◌, ◌<◌, ◌≤◌, min, ◌≡◌, refl, List, [], ◌∷◌, ◌++◌, true, false, eqb, leb, length, take, drop, get_or, set}
 use Rattle.std.proofs.Common.{ap, sym, ◌∙◌, append-nil, append_assoc, arith, add-one, leb-true, leb-false, length-append, take-suc, take-add, length-take-le}
 use Rattle.std.proofs.Math.Seq.{slice, length-slice}
-use Rattle.std.proofs.lemmas.List.{drop-append-le}
+use Rattle.std.proofs.lemmas.List.{drop-append-le, take-append-drop}
 use Rattle.xml.specs.Bytes.{Bytes}
 use Rattle.xml.specs.Truth.{by-test}
 use Rattle.xml.specs.Forest.{Forest, escape, write}
@@ -56,6 +56,12 @@ left-room src a e x h k l = omega (arith, left-place x, length-spelt (slice a e 
 -- what does not fit is not written
 pub at_cut : (out : List ℕ) (a : ℕ) (v w : Bytes) → length out ≤ a + length v → over_at out a (v ++ w) ≡ over_at out a v
 at_cut out a v w h = sym (at-then out a v w) ∙ at-past (over_at out a v) (a + length v) w (rw (length_at out a v) h)
+
+-- so the bytes that there is room for are enough
+pub at-some : (out : List ℕ) (a : ℕ) (w : Bytes) → a ≤ length out → length out ≤ a + length w → over_at out a (take (length out - a) w) ≡ over_at out a w
+at-some out a w h k =
+    let n : length (take (length out - a) w) ≡ length out - a = length-take-le (length out - a) w (omega arith) in
+    sym (at_cut out a (take (length out - a) w) (drop (length out - a) w) (omega arith)) ∙ ap (over_at out a) (take-append-drop (length out - a) w)
 
 -- a part with one byte more
 pub slice_snoc : (l : List ℕ) (a i : ℕ) → a ≤ i → i < length l → slice a (i + 1) l ≡ slice a i l ++ (get_or l i 0 ∷ [])

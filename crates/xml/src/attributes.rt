@@ -6,51 +6,52 @@ ghost use Rattle.xml.specs.Read.{name_len, value_byte, value};
 ghost use Rattle.xml.specs.NameCells.{NameCells, SomeNames, Below};
 ghost use Rattle.xml.specs.AttrPlaces.{attr_named, AttrsRead};
 
+use crate::ReadError;
 use crate::class::is_printed;
 use crate::names::{is_noted, note};
 use crate::scan::{byte_at, entity_at, name_len};
-use crate::{Extent, Found, Next, Run};
 
-// What a byte of an attribute's value means, between quotes q.
-fn value_byte(src: &[u8], at: usize, q: u8) -> Next
+// What a byte of an attribute's value means, between quotes q: the value is over; or it goes on after so many bytes more; or the byte so
+// many bytes on is wrong.
+fn value_byte(src: &[u8], at: usize, q: u8) -> Result<Option<(usize, usize)>, usize>
     requires { at < length src.now }
     ensures { result ≡ value_byte q (get_or src.now at 0) (drop (at + 1) src.now) }
 {
     let b = src[at];
     if b == q {
-        return Next::Over;
+        return Ok(None);
     }
     if b == b'&' {
         match entity_at(src, at + 1) {
-            Found::Hit(k, _) => return Next::On(k, 0),
-            Found::Miss(k) => return Next::Off(1 + k),
+            Ok((k, _)) => return Ok(Some((k, 0))),
+            Err(k) => return Err(1 + k),
         }
     }
     if b == b'<' {
-        return Next::Off(0);
+        return Err(0);
     }
     if !is_printed(b) {
-        return Next::Off(0);
+        return Err(0);
     }
-    Next::On(0, 0)
+    Ok(Some((0, 0)))
 }
 
 // How far a value goes, between quotes q: its length; or the offset of the wrong byte in it.
-fn value_run(src: &[u8], at: usize, q: u8) -> Run
+fn value_run(src: &[u8], at: usize, q: u8) -> Result<usize, usize>
     requires { at ≤ length src.now }
     ensures { result ≡ value q 0 0 (drop at src.now) }
 {
     let mut j = at;
     while j < src.len() {
         match value_byte(src, j, q) {
-            Next::Over => return Run::Upto(j - at),
-            Next::Off(k) => return Run::Stop(j - at + k),
-            Next::On(k, _) => {
+            Ok(None) => return Ok(j - at),
+            Err(k) => return Err(j - at + k),
+            Ok(Some((k, _))) => {
                 j = j + 1 + k;
             }
         }
     }
-    Run::Stop(j - at)
+    Err(j - at)
 }
 
 // A quote, which stands before and after a value.
@@ -101,8 +102,7 @@ fn new_len(src: &[u8], cells: &[u32], base: usize, k: usize, at: usize) -> usize
     ensures { (used : List Bytes) → NameCells src.now cells.now base k used → result ≡ new_len used (drop at src.now) }
 {
     let mut name = [0; 32];
-    let mut n = 0;
-    while n < 32 {
+    for n in 0..32 {
         if at + n == src.len() {
             return n;
         }
@@ -110,48 +110,59 @@ fn new_len(src: &[u8], cells: &[u32], base: usize, k: usize, at: usize) -> usize
         if !is_fresh(src, cells, base, k, name, n + 1) {
             return n;
         }
-        n += 1;
     }
-    n
+    32
 }
 
 // Where the text is wrong after a space, at a place where no new name stands; it is asked once for a text.
-fn first_wrong(src: &[u8], cells: &[u32], base: usize, k: usize, at: usize) -> Next
+fn first_wrong(
+    src: &[u8],
+    cells: &[u32],
+    base: usize,
+    k: usize,
+    at: usize,
+) -> Result<Option<(usize, usize)>, usize>
     requires { SomeNames src.now cells.now base k × (length src.now ≤ 32768) × (at ≤ length src.now) × ((used : List Bytes) → NameCells src.now cells.now base k used → is_new used (take (name_len (drop at src.now)) (drop at src.now)) ≡ false) }
     ensures { (used : List Bytes) → NameCells src.now cells.now base k used → result ≡ attr_named used 0x20 (drop at src.now) }
 {
     if !is_fresh(src, cells, base, k, [0; 32], 0) {
-        return Next::Over;
+        return Ok(None);
     }
-    Next::Off(1 + new_len(src, cells, base, k, at))
+    Err(1 + new_len(src, cells, base, k, at))
 }
 
 // An attribute after its space, at a place where a new name of m bytes stands.
-fn after_name(src: &[u8], at: usize, m: usize) -> Next
+fn after_name(src: &[u8], at: usize, m: usize) -> Result<Option<(usize, usize)>, usize>
     requires { (at ≤ length src.now) × (length src.now ≤ 32768) × (m ≡ name_len (drop at src.now)) }
     ensures { (used : List Bytes) → is_new used (take m (drop at src.now)) ≡ true → result ≡ attr_named used 0x20 (drop at src.now) }
 {
     if byte_at(src, at + m) != b'=' {
-        return Next::Off(1 + m);
+        return Err(1 + m);
     }
     let q = byte_at(src, at + m + 1);
     if !is_quote(q) {
-        return Next::Off(2 + m);
+        return Err(2 + m);
     }
     match value_run(src, at + m + 2, q) {
-        Run::Upto(n) => Next::On(3 + m + n, m),
-        Run::Stop(n) => Next::Off(3 + m + n),
+        Ok(n) => Ok(Some((3 + m + n, m))),
+        Err(n) => Err(3 + m + n),
     }
 }
 
 // What the byte after a name or an attribute says: the attributes are over; or one more goes on for so many bytes, with a name so long,
 // or is wrong.
-fn attribute(src: &[u8], cells: &[u32], base: usize, k: usize, at: usize) -> Next
+fn attribute(
+    src: &[u8],
+    cells: &[u32],
+    base: usize,
+    k: usize,
+    at: usize,
+) -> Result<Option<(usize, usize)>, usize>
     requires { SomeNames src.now cells.now base k × (length src.now ≤ 32768) × (at < length src.now) }
     ensures { (used : List Bytes) → NameCells src.now cells.now base k used → result ≡ attr_named used (get_or src.now at 0) (drop (at + 1) src.now) }
 {
     if src[at] != b' ' {
-        return Next::Over;
+        return Ok(None);
     }
     let from = at + 1;
     let m = name_len(src, from);
@@ -162,8 +173,14 @@ fn attribute(src: &[u8], cells: &[u32], base: usize, k: usize, at: usize) -> Nex
     after_name(src, from, m)
 }
 
-// How far attributes go, from a place on. Their names are noted in the cells from `base` on.
-pub(crate) fn attributes(src: &[u8], at: usize, cells: &mut [u32], base: usize) -> Extent
+// How far attributes go, from a place on; or the offset of the wrong byte in them, or no room for their names, which are noted in the
+// cells from `base` on.
+pub(crate) fn attributes(
+    src: &[u8],
+    at: usize,
+    cells: &mut [u32],
+    base: usize,
+) -> Result<usize, ReadError>
     requires { (at ≤ length src.now) × (length src.now ≤ 32768) × (base ≤ length cells.old) }
     ensures { Below cells.old cells.new base × AttrsRead (drop at src.now) (length cells.old) base result }
 {
@@ -171,11 +188,11 @@ pub(crate) fn attributes(src: &[u8], at: usize, cells: &mut [u32], base: usize) 
     let mut k = 0;
     while j < src.len() {
         match attribute(src, cells, base, k, j) {
-            Next::Over => return Extent::Upto(j - at),
-            Next::Off(n) => return Extent::Stop(j - at + n),
-            Next::On(n, m) => {
+            Ok(None) => return Ok(j - at),
+            Err(n) => return Err(ReadError::Wrong(j - at + n)),
+            Ok(Some((n, m))) => {
                 if base + k == cells.len() {
-                    return Extent::Full;
+                    return Err(ReadError::Full);
                 }
                 note(src, cells, base, k, j + 1, m);
                 k += 1;
@@ -183,5 +200,5 @@ pub(crate) fn attributes(src: &[u8], at: usize, cells: &mut [u32], base: usize) 
             }
         }
     }
-    Extent::Upto(j - at)
+    Ok(j - at)
 }

@@ -1,7 +1,17 @@
 // The class of a byte, by comparison. Each range of bytes that a class has is said here, once; every test of a byte's class is made of these.
 ghost use Rattle.std.specs.Prelude.{◌≡◌};
 ghost use Rattle.xml.specs.Bytes.{among, within, class_of, is_letter, is_digit, is_white, is_start, is_name_byte};
-ghost use Rattle.xml.specs.ClassNumber.{class_number};
+
+// A byte's class: illegal, white space, name start, other name byte, markup, other text.
+#[derive(Clone, Copy, PartialEq, Eq)]
+pub enum ByteClass {
+    Illegal,
+    White,
+    Start,
+    Other,
+    Markup,
+    Plain,
+}
 
 // A small letter.
 pub(crate) fn is_small(b: u8) -> bool
@@ -59,21 +69,24 @@ pub fn is_name_byte(b: u8) -> bool
     is_name_start(b) | is_digit(b) | (b == b'.') | (b == b'-')
 }
 
-// The class of a byte: 0 illegal, 1 white space, 2 name start, 3 other name byte, 4 markup, 5 other text.
-pub fn class(b: u8) -> u8
-    ensures { result ≡ class_number (class_of b) }
+// The class of a byte.
+pub fn class(b: u8) -> ByteClass
+    ensures { result ≡ class_of b }
 {
     if is_name_start(b) {
-        return 2;
+        return ByteClass::Start;
     }
     if is_name_byte(b) {
-        return 3;
+        return ByteClass::Other;
     }
     if is_white_byte(b) {
-        return 1;
+        return ByteClass::White;
     }
     if is_markup(b) {
-        return 4;
+        return ByteClass::Markup;
     }
-    if is_printed(b) { 5 } else { 0 }
+    if is_printed(b) {
+        return ByteClass::Plain;
+    }
+    ByteClass::Illegal
 }

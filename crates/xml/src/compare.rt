@@ -10,26 +10,21 @@ ghost use Rattle.xml.specs.SameTapes.{Parts, meaning};
 ghost use Rattle.xml.specs.Tape.{Tape, Valid};
 
 use crate::class::is_white_byte;
-use crate::tape::view_at;
+use crate::tape::Document;
 use crate::text::{plain_end, sign_at};
 use crate::writer::{least, put_text};
 
-// src1[a1..e1] and src2[a2..e2] are the same bytes.
-pub fn same_bytes(src1: &[u8], a1: usize, e1: usize, src2: &[u8], a2: usize, e2: usize) -> bool
-    requires { Parts src1.now a1 e1 src2.now a2 e2 }
-    ensures { result ≡ same (slice a1 e1 src1.now) (slice a2 e2 src2.now) }
+// Two parts are the same bytes: names, mostly, which are short, so that this loop is faster than `==`.
+pub fn same_bytes(a: &[u8], b: &[u8]) -> bool
+    ensures { result ≡ same a.now b.now }
 {
-    if e1 - a1 != e2 - a2 {
+    if a.len() != b.len() {
         return false;
     }
-    let mut i = a1;
-    let mut j = a2;
-    while i < e1 {
-        if src1[i] != src2[j] {
+    for i in 0..a.len() {
+        if a[i] != b[i] {
             return false;
         }
-        i += 1;
-        j += 1;
     }
     true
 }
@@ -83,16 +78,15 @@ fn alike_bytes(src1: &[u8], i: usize, src2: &[u8], j: usize, count: usize) -> us
     n
 }
 
-// src1[a1..e1] and src2[a2..e2], which are mostly long and the same, are the same bytes: whole blocks first.
-pub fn same_long(src1: &[u8], a1: usize, e1: usize, src2: &[u8], a2: usize, e2: usize) -> bool
-    requires { Parts src1.now a1 e1 src2.now a2 e2 }
-    ensures { result ≡ same (slice a1 e1 src1.now) (slice a2 e2 src2.now) }
+// Two parts, which are mostly long and the same, are the same bytes: whole blocks first.
+pub fn same_long(a: &[u8], b: &[u8]) -> bool
+    ensures { result ≡ same a.now b.now }
 {
-    if e1 - a1 != e2 - a2 {
+    if a.len() != b.len() {
         return false;
     }
-    let n = alike_blocks(src1, a1, src2, a2, e1 - a1);
-    same_bytes(src1, a1 + n, e1, src2, a2 + n, e2)
+    let n = alike_blocks(a, 0, b, 0, a.len());
+    same_bytes(&a[n..], &b[n..])
 }
 
 // How many bytes at the start of the runs src1[i..e1] and src2[j..e2] are alike, and so mean the same: whole blocks first, then byte by byte.
@@ -105,19 +99,18 @@ fn alike_len(src1: &[u8], i: usize, e1: usize, src2: &[u8], j: usize, e2: usize)
     n + alike_bytes(src1, i + n, src2, j + n, count - n)
 }
 
-// The runs src1[a1..e1] and src2[a2..e2] end in bytes that differ, end no entity and are no CR, and so mean different things.
-fn ends_differ(src1: &[u8], a1: usize, e1: usize, src2: &[u8], a2: usize, e2: usize) -> bool
-    requires { Parts src1.now a1 e1 src2.now a2 e2 }
-    ensures { result ≡ true → same (unescape 0 (slice a1 e1 src1.now)) (unescape 0 (slice a2 e2 src2.now)) ≡ false }
+// Two runs end in bytes that differ, end no entity and are no CR, and so mean different things.
+fn ends_differ(run1: &[u8], run2: &[u8]) -> bool
+    ensures { result ≡ true → same (unescape 0 run1.now) (unescape 0 run2.now) ≡ false }
 {
-    if a1 == e1 {
+    if run1.len() == 0 {
         return false;
     }
-    if a2 == e2 {
+    if run2.len() == 0 {
         return false;
     }
-    let b = src1[e1 - 1];
-    let c = src2[e2 - 1];
+    let b = run1[run1.len() - 1];
+    let c = run2[run2.len() - 1];
     if b == c {
         return false;
     }
@@ -133,65 +126,53 @@ fn ends_differ(src1: &[u8], a1: usize, e1: usize, src2: &[u8], a2: usize, e2: us
     c != b'\r'
 }
 
-// The runs of text whose raw bytes are src1[a1..e1] and src2[a2..e2] mean the same: bytes that are alike are passed together.
-pub fn same_run(src1: &[u8], a1: usize, e1: usize, src2: &[u8], a2: usize, e2: usize) -> bool
-    requires { Parts src1.now a1 e1 src2.now a2 e2 }
-    ensures { result ≡ same (unescape 0 (slice a1 e1 src1.now)) (unescape 0 (slice a2 e2 src2.now)) }
+// The runs of text with these raw bytes mean the same: bytes that are alike are passed together.
+pub fn same_run(run1: &[u8], run2: &[u8]) -> bool
+    ensures { result ≡ same (unescape 0 run1.now) (unescape 0 run2.now) }
 {
-    if ends_differ(src1, a1, e1, src2, a2, e2) {
+    if ends_differ(run1, run2) {
         return false;
     }
-    let mut i = a1;
-    let mut j = a2;
-    while i < e1 {
-        if e2 <= j {
+    let mut i = 0;
+    let mut j = 0;
+    while i < run1.len() {
+        if run2.len() <= j {
             return false;
         }
-        let s = sign_at(src1, i, e1);
-        let t = sign_at(src2, j, e2);
+        let s = sign_at(run1, i, run1.len());
+        let t = sign_at(run2, j, run2.len());
         if s.byte != t.byte {
             return false;
         }
-        let more = alike_len(src1, s.next, e1, src2, t.next, e2);
+        let more = alike_len(run1, s.next, run1.len(), run2, t.next, run2.len());
         i = s.next + more;
         j = t.next + more;
     }
-    e2 <= j
+    run2.len() <= j
 }
 
 // The parts that name two nodes, both runs of text or both names or times, mean the same.
-fn same_meaning(
-    run: bool,
-    src1: &[u8],
-    a1: usize,
-    e1: usize,
-    src2: &[u8],
-    a2: usize,
-    e2: usize,
-) -> bool
-    requires { Parts src1.now a1 e1 src2.now a2 e2 }
-    ensures { result ≡ same (meaning run (slice a1 e1 src1.now)) (meaning run (slice a2 e2 src2.now)) }
+fn same_meaning(run: bool, a: &[u8], b: &[u8]) -> bool
+    ensures { result ≡ same (meaning run a.now) (meaning run b.now) }
 {
     if run {
-        return same_run(src1, a1, e1, src2, a2, e2);
+        return same_run(a, b);
     }
-    same_bytes(src1, a1, e1, src2, a2, e2)
+    same_bytes(a, b)
 }
 
 // The nodes lo1 to hi1 of one tape and lo2 to hi2 of another are the same forest: node by node of the same kind, as far from their next,
 // with the same meaning.
-pub fn same_nodes(
-    src1: &[u8],
-    tape1: &[u32],
+pub fn same_nodes<'a>(
+    doc1: &Document<'a>,
     lo1: usize,
     hi1: usize,
-    src2: &[u8],
-    tape2: &[u32],
+    doc2: &Document<'a>,
     lo2: usize,
     hi2: usize,
 ) -> bool
-    requires { Valid src1.now tape1.now lo1 hi1 × Valid src2.now tape2.now lo2 hi2 }
-    ensures { (f g : Forest) → Tape src1.now tape1.now lo1 hi1 f → Tape src2.now tape2.now lo2 hi2 g
+    requires { Valid doc1.now.src.now doc1.now.tape.now lo1 hi1 × Valid doc2.now.src.now doc2.now.tape.now lo2 hi2 }
+    ensures { (f g : Forest) → Tape doc1.now.src.now doc1.now.tape.now lo1 hi1 f → Tape doc2.now.src.now doc2.now.tape.now lo2 hi2 g
         → result ≡ same_forest f g }
 {
     if hi1 - lo1 != hi2 - lo2 {
@@ -200,15 +181,15 @@ pub fn same_nodes(
     let mut i = lo1;
     let mut j = lo2;
     while i < hi1 {
-        let v = view_at(tape1, i);
-        let w = view_at(tape2, j);
+        let v = doc1.view(i);
+        let w = doc2.view(j);
         if v.kind != w.kind {
             return false;
         }
         if v.next - i != w.next - j {
             return false;
         }
-        if !same_meaning(v.kind == 0, src1, v.start, v.end, src2, w.start, w.end) {
+        if !same_meaning(v.kind == 0, doc1.part(v), doc2.part(w)) {
             return false;
         }
         i += 1;
@@ -217,14 +198,13 @@ pub fn same_nodes(
     true
 }
 
-// The run src[a..e] is all white space: an entity never is.
-pub fn is_white(src: &[u8], a: usize, e: usize) -> bool
-    requires { (a ≤ e) × (e ≤ length src.now) }
-    ensures { result ≡ all is_white (unescape 0 (slice a e src.now)) }
+// A run is all white space: an entity never is.
+pub fn is_white(run: &[u8]) -> bool
+    ensures { result ≡ all is_white (unescape 0 run.now) }
 {
-    let mut i = a;
-    while i < e {
-        if !is_white_byte(src[i]) {
+    let mut i = 0;
+    while i < run.len() {
+        if !is_white_byte(run[i]) {
             return false;
         }
         i += 1;
@@ -232,14 +212,14 @@ pub fn is_white(src: &[u8], a: usize, e: usize) -> bool
     true
 }
 
-// The length of the run src[a..e] as it is written: without a marked byte, as it stands.
-pub fn text_len(src: &[u8], a: usize, e: usize) -> usize
-    requires { (a ≤ e) × (e ≤ length src.now) × (e - a ≤ 32768) }
-    ensures { result ≡ length (spelt (slice a e src.now)) }
+// The length of a run as it is written: without a marked byte, as it stands.
+pub fn text_len(run: &[u8]) -> usize
+    requires { length run.now ≤ 32768 }
+    ensures { result ≡ length (spelt run.now) }
 {
-    if plain_end(src, a, e) == e {
-        return e - a;
+    if plain_end(run, 0, run.len()) == run.len() {
+        return run.len();
     }
     let mut none = [0u8; 0];
-    put_text(src, a, e, &mut none, 0)
+    put_text(run, &mut none, 0)
 }

@@ -11,7 +11,7 @@ ghost use Rattle.xml.specs.Tape.{head_at, next_at, Tape, Valid};
 ghost use Rattle.xml.specs.TapeLaws.{opening, closing};
 
 use crate::scan::same;
-use crate::tape::view_at;
+use crate::tape::Document;
 use crate::text::{plain_end, sign_at};
 
 // The whole of `word`.
@@ -110,34 +110,34 @@ fn match_close(element: bool, src: &[u8], a: usize, e: usize, at: usize) -> usiz
 
 // The element p of the tape, or an archive's `T`, with what it holds.
 #[cycle(match_content_match_element)]
-fn match_element(src: &[u8], tape: &[u32], p: usize, at: usize) -> usize
-    requires { (at ≤ length src.now + 1) × (length src.now ≤ 32768) × (p < next_at tape.now p) × (head_at tape.now p % 4 ≡ 0 → ⊥)
-        × Valid src.now tape.now p (next_at tape.now p) }
-    ensures { Matches src.now tape.now p (next_at tape.now p) at result }
+fn match_element(doc: &Document, p: usize, at: usize) -> usize
+    requires { (at ≤ length doc.now.src.now + 1) × (length doc.now.src.now ≤ 32768) × (p < next_at doc.now.tape.now p) × (head_at doc.now.tape.now p % 4 ≡ 0 → ⊥)
+        × Valid doc.now.src.now doc.now.tape.now p (next_at doc.now.tape.now p) }
+    ensures { Matches doc.now.src.now doc.now.tape.now p (next_at doc.now.tape.now p) at result }
 {
-    let v = view_at(tape, p);
-    let inside = match_open(v.kind == 1, src, v.start, v.end, at);
-    let close = match_content(src, tape, p + 1, v.next, inside);
-    match_close(v.kind == 1, src, v.start, v.end, close)
+    let v = doc.view(p);
+    let inside = match_open(v.kind == 1, doc.src, v.start, v.end, at);
+    let close = match_content(doc, p + 1, v.next, inside);
+    match_close(v.kind == 1, doc.src, v.start, v.end, close)
 }
 
 // The nodes lo to hi of the tape, up to the first that does not stand there.
 #[cycle(match_content_match_element)]
-fn match_content(src: &[u8], tape: &[u32], lo: usize, hi: usize, at: usize) -> usize
-    requires { (at ≤ length src.now + 1) × (length src.now ≤ 32768) × Valid src.now tape.now lo hi }
-    ensures { Matches src.now tape.now lo hi at result }
+fn match_content(doc: &Document, lo: usize, hi: usize, at: usize) -> usize
+    requires { (at ≤ length doc.now.src.now + 1) × (length doc.now.src.now ≤ 32768) × Valid doc.now.src.now doc.now.tape.now lo hi }
+    ensures { Matches doc.now.src.now doc.now.tape.now lo hi at result }
 {
     let mut p = lo;
     let mut to = at;
     while p < hi {
-        if src.len() < to {
+        if doc.src.len() < to {
             return to;
         }
-        let v = view_at(tape, p);
+        let v = doc.view(p);
         if v.kind == 0 {
-            to = match_text(src, to, v.start, v.end);
+            to = match_text(doc.src, to, v.start, v.end);
         } else {
-            to = match_element(src, tape, p, to);
+            to = match_element(doc, p, to);
         }
         p = v.next;
     }
@@ -145,9 +145,9 @@ fn match_content(src: &[u8], tape: &[u32], lo: usize, hi: usize, at: usize) -> u
 }
 
 // Whether a text is exactly what the nodes of its tape are written as.
-pub fn matches(src: &[u8], tape: &[u32], hi: usize) -> bool
-    requires { Valid src.now tape.now 0 hi × (hi ≤ 2 ^ 32) × (length src.now ≤ 32768) }
-    ensures { (f : Forest) → Tape src.now tape.now 0 hi f → result ≡ same src.now (written f) }
+pub fn matches(doc: &Document, hi: usize) -> bool
+    requires { Valid doc.now.src.now doc.now.tape.now 0 hi × (hi ≤ 2 ^ 32) × (length doc.now.src.now ≤ 32768) }
+    ensures { (f : Forest) → Tape doc.now.src.now doc.now.tape.now 0 hi f → result ≡ same doc.now.src.now (written f) }
 {
-    match_content(src, tape, 0, hi, 0) == src.len()
+    match_content(doc, 0, hi, 0) == doc.src.len()
 }

@@ -4,31 +4,15 @@ ghost use Rattle.std.specs.Prelude.{◌≡◌, false, List, ◌∷◌, ◌+◌, 
 ghost use Rattle.std.proofs.Math.Seq.{slice};
 ghost use Rattle.xml.specs.Bytes.{Bytes, any, same};
 ghost use Rattle.xml.specs.Tags.{less};
-ghost use Rattle.xml.specs.SameTapes.{Parts};
 ghost use Rattle.xml.specs.NameCells.{name_in, InText, NameCells, SomeNames, Parted, Shifted, Below};
 
 use crate::compare::same_bytes;
 
-// The name src1[a1..e1] comes before src2[a2..e2]: as byte strings, a prefix first.
-pub(crate) fn precedes(src1: &[u8], a1: usize, e1: usize, src2: &[u8], a2: usize, e2: usize) -> bool
-    requires { Parts src1.now a1 e1 src2.now a2 e2 }
-    ensures { result ≡ less (slice a1 e1 src1.now) (slice a2 e2 src2.now) }
+// A name comes before another: as byte strings, a prefix first.
+pub(crate) fn precedes(a: &[u8], b: &[u8]) -> bool
+    ensures { result ≡ less a.now b.now }
 {
-    let mut i = a1;
-    let mut j = a2;
-    while j < e2 {
-        if i == e1 {
-            return true;
-        }
-        let b = src1[i];
-        let c = src2[j];
-        if b != c {
-            return b < c;
-        }
-        i += 1;
-        j += 1;
-    }
-    false
+    a < b
 }
 
 // The name that a cell holds comes before a name.
@@ -38,7 +22,7 @@ fn cell_precedes(src: &[u8], cell: u32, name: &[u8]) -> bool
 {
     let start = (cell / 64) as usize;
     let end = start + (cell % 64) as usize;
-    precedes(src, start, end, name, 0, name.len())
+    precedes(&src[start..end], name)
 }
 
 // How many of the noted names come before a name: found by halving.
@@ -71,7 +55,7 @@ pub(crate) fn is_noted(src: &[u8], cells: &[u32], base: usize, k: usize, name: &
     let cell = cells[base + i];
     let start = (cell / 64) as usize;
     let end = start + (cell % 64) as usize;
-    same_bytes(src, start, end, name, 0, name.len())
+    same_bytes(&src[start..end], name)
 }
 
 // Moves the cells lo to hi one further.
@@ -79,11 +63,7 @@ fn shift(cells: &mut [u32], lo: usize, hi: usize)
     requires { (lo ≤ hi) × (hi < length cells.old) }
     ensures { Shifted cells.old lo hi cells.new }
 {
-    let mut i = hi;
-    while lo < i {
-        cells[i] = cells[i - 1];
-        i -= 1;
-    }
+    cells.copy_within(lo..hi, lo + 1);
 }
 
 // Notes the name src[start..start + count], which is not noted yet.

@@ -7,7 +7,15 @@ ghost use Rattle.xml.specs.State.{Here, Running, Ending, Opening, Noted, Stepped
 use crate::class::is_white_byte;
 use crate::scan::{byte_at, end_tag, start_tag, text_run};
 use crate::tape::view_at;
-use crate::{Reply, Run, Start, Step};
+use crate::{ReadError, Start};
+
+// How far reading has come: the place in the text, the number of nodes, and the innermost open node (one more than it, 0 for none).
+#[derive(Clone, Copy)]
+struct Progress {
+    at: usize,
+    count: usize,
+    top: usize,
+}
 
 // The first cell of a node.
 fn head(start: usize, count: usize, kind: u32) -> u32
@@ -18,16 +26,27 @@ fn head(start: usize, count: usize, kind: u32) -> u32
 }
 
 // Writes the two cells of a new node, and goes on at `at` with `top` open; or there is no room for them.
-fn node(tape: &mut [u32], count: usize, head: u32, next: usize, at: usize, top: usize) -> Step
+fn node(
+    tape: &mut [u32],
+    count: usize,
+    head: u32,
+    next: usize,
+    at: usize,
+    top: usize,
+) -> Result<Progress, ReadError>
     requires { (count ≤ 32768) × (next ≤ 32769) }
     ensures { Noted tape.old count head next at top tape.new result }
 {
     if tape.len() < 2 * count + 2 {
-        return Step::Full;
+        return Err(ReadError::Full);
     }
     tape[2 * count] = head;
     tape[2 * count + 1] = next as u32;
-    Step::Go(at, count + 1, top)
+    Ok(Progress {
+        at,
+        count: count + 1,
+        top,
+    })
 }
 
 // Writes the second cell of the node p.
@@ -43,110 +62,111 @@ fn characters(
     src: &[u8],
     archive: bool,
     tape: &mut [u32],
-    at: usize,
-    count: usize,
-    top: usize,
-) -> Step
-    requires { Running archive src.now tape.old at count top }
-    ensures { Stepped archive src.now tape.old at count tape.new result }
+    from: Progress,
+) -> Result<Progress, ReadError>
+    requires { Running archive src.now tape.old from.at from.count from.top }
+    ensures { Stepped archive src.now tape.old from.at from.count tape.new result }
 {
+    let Progress { at, count, top } = from;
     match text_run(src, at) {
-        Run::Stop(k) => Step::Bad(at + k),
-        Run::Upto(k) => node(tape, count, head(at, k, 0), count + 1, at + k, top),
+        Err(k) => Err(ReadError::Wrong(at + k)),
+        Ok(k) => node(tape, count, head(at, k, 0), count + 1, at + k, top),
     }
 }
 
-// A start tag, whose `<` stands at `at`.
+// A start tag, whose `<` stands at `from.at`.
 fn open_tag(
     src: &[u8],
     archive: bool,
     tape: &mut [u32],
-    at: usize,
-    count: usize,
-    top: usize,
-) -> Step
-    requires { Opening archive src.now tape.old at count top }
-    ensures { Stepped archive src.now tape.old at count tape.new result }
+    from: Progress,
+) -> Result<Progress, ReadError>
+    requires { Opening archive src.now tape.old from.at from.count from.top }
+    ensures { Stepped archive src.now tape.old from.at from.count tape.new result }
 {
+    let Progress { at, count, top } = from;
     match start_tag(src, archive, at + 1) {
-        Start::Off(k) => Step::Bad(at + k),
-        Start::Opens(n) => node(tape, count, head(at + 1, n, 1), top, at + 2 + n, count + 1),
-        Start::Lone(n) => node(tape, count, head(at + 1, n, 1), count + 1, at + 3 + n, top),
-        Start::Timed(n) => node(tape, count, head(at + 6, n, 2), top, at + 8 + n, count + 1),
+        Err(k) => Err(ReadError::Wrong(at + k)),
+        Ok(Start::Opens(n)) => node(tape, count, head(at + 1, n, 1), top, at + 2 + n, count + 1),
+        Ok(Start::Lone(n)) => node(tape, count, head(at + 1, n, 1), count + 1, at + 3 + n, top),
+        Ok(Start::Timed(n)) => node(tape, count, head(at + 6, n, 2), top, at + 8 + n, count + 1),
     }
 }
 
-// An end tag, whose `<` stands at `at`.
+// An end tag, whose `<` stands at `from.at`.
 fn close_tag(
     src: &[u8],
     archive: bool,
     tape: &mut [u32],
-    at: usize,
-    count: usize,
-    top: usize,
-) -> Step
-    requires { Ending archive src.now tape.old at count top }
-    ensures { Stepped archive src.now tape.old at count tape.new result }
+    from: Progress,
+) -> Result<Progress, ReadError>
+    requires { Ending archive src.now tape.old from.at from.count from.top }
+    ensures { Stepped archive src.now tape.old from.at from.count tape.new result }
 {
+    let Progress { at, count, top } = from;
     let v = view_at(tape, top - 1);
     match end_tag(src, at + 2, v.start, v.end, v.kind) {
-        Run::Stop(m) => Step::Bad(at + 2 + m),
-        Run::Upto(m) => {
+        Err(m) => Err(ReadError::Wrong(at + 2 + m)),
+        Ok(m) => {
             set_next(tape, top - 1, count);
-            Step::Go(at + 3 + m, count, v.next)
+            Ok(Progress {
+                at: at + 3 + m,
+                count,
+                top: v.next,
+            })
         }
     }
 }
 
-// The token at `at`: text or a tag in an open node; white space or the root's tag outside.
-fn advance(src: &[u8], archive: bool, tape: &mut [u32], at: usize, count: usize, top: usize) -> Step
-    requires { Here archive src.now tape.old at count top }
-    ensures { Stepped archive src.now tape.old at count tape.new result }
+// The token at `from.at`: text or a tag in an open node; white space or the root's tag outside.
+fn advance(
+    src: &[u8],
+    archive: bool,
+    tape: &mut [u32],
+    from: Progress,
+) -> Result<Progress, ReadError>
+    requires { Here archive src.now tape.old from.at from.count from.top }
+    ensures { Stepped archive src.now tape.old from.at from.count tape.new result }
 {
-    let b = src[at];
+    let b = src[from.at];
     if b != b'<' {
-        if 0 < top {
-            return characters(src, archive, tape, at, count, top);
+        if 0 < from.top {
+            return characters(src, archive, tape, from);
         }
         if is_white_byte(b) {
-            return Step::Go(at + 1, count, 0);
+            return Ok(Progress {
+                at: from.at + 1,
+                count: from.count,
+                top: 0,
+            });
         }
-        return Step::Bad(at);
+        return Err(ReadError::Wrong(from.at));
     }
-    if 0 < top {
-        if byte_at(src, at + 1) == b'/' {
-            return close_tag(src, archive, tape, at, count, top);
+    if 0 < from.top {
+        if byte_at(src, from.at + 1) == b'/' {
+            return close_tag(src, archive, tape, from);
         }
-    } else if 0 < count {
-        return Step::Bad(at);
+    } else if 0 < from.count {
+        return Err(ReadError::Wrong(from.at));
     }
-    open_tag(src, archive, tape, at, count, top)
+    open_tag(src, archive, tape, from)
 }
 
-// Reads a text onto the tape: a version's, or an archive's, whose `T` tags have their times.
-pub fn read(src: &[u8], archive: bool, tape: &mut [u32]) -> Reply
+// Reads a text onto the tape, and answers the number of its nodes: a version's, or an archive's, whose `T` tags have their times.
+pub fn read(src: &[u8], archive: bool, tape: &mut [u32]) -> Result<usize, ReadError>
     requires { length src.now ≤ 32768 }
     ensures { Replied archive src.now tape.old tape.new result }
 {
-    let mut at = 0;
-    let mut count = 0;
-    let mut top = 0;
-    while at < src.len() {
-        match advance(src, archive, tape, at, count, top) {
-            Step::Bad(p) => return Reply::Wrong(p),
-            Step::Full => return Reply::Full,
-            Step::Go(a, n, t) => {
-                at = a;
-                count = n;
-                top = t;
-            }
-        }
+    let mut here = Progress {
+        at: 0,
+        count: 0,
+        top: 0,
+    };
+    while here.at < src.len() {
+        here = advance(src, archive, tape, here)?;
     }
-    if top != 0 {
-        return Reply::Wrong(at);
+    if here.top != 0 || here.count == 0 {
+        return Err(ReadError::Wrong(here.at));
     }
-    if count == 0 {
-        return Reply::Wrong(at);
-    }
-    Reply::Done(count)
+    Ok(here.count)
 }

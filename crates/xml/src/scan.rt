@@ -4,14 +4,16 @@ ghost use Rattle.std.proofs.Math.Seq.{slice};
 ghost use Rattle.xml.specs.ByteTests.{is_plain};
 ghost use Rattle.xml.specs.Bytes.{is_times};
 ghost use Rattle.xml.specs.Read.{common, name_rest, name_len, times_len, entity_at, text_byte, scan as scanned};
-ghost use Rattle.xml.specs.Stretch.{Each, Passed, Times, brackets_after};
+ghost use Rattle.xml.specs.Stretch.{Passed, brackets_after};
 ghost use Rattle.xml.specs.Tokens.{begins_times, TimesRead, StartRead, EndRead, EndNamed};
 
+use crate::Start;
 use crate::class::{
-    class, is_digit, is_markup, is_name_byte, is_name_start, is_printed, is_small, is_white_byte,
+    ByteClass, class, is_digit, is_markup, is_name_byte, is_name_start, is_printed, is_small,
+    is_white_byte,
 };
+use crate::stretch::{Sort, has_other, pass_blocks, pass_bytes};
 use crate::writer::least;
-use crate::{Found, Next, Run, Start};
 
 // The byte at a place; the end of the text counts as a byte 0.
 pub fn byte_at(src: &[u8], i: usize) -> u8
@@ -60,46 +62,21 @@ fn is_foreign(b: u8) -> bool
     !(is_digit(b) | (b == b'-') | (b == b','))
 }
 
-// Whether one of sixteen bytes is none of a timestamp; without a branch, so that they are compared at once.
-fn has_foreign(src: &[u8], at: usize) -> bool
-    requires { at + 16 ≤ length src.now }
-    ensures { result ≡ false → Each is_times true src.now at (at + 16) }
-{
-    let mut hit = false;
-    for i in 0..16 {
-        hit = hit | is_foreign(src[at + i]);
-    }
-    hit
-}
+// The bytes of a timestamp.
+struct Times;
 
-// A place up to which the text has bytes of times alone, from a place on: blocks of sixteen.
-fn times_blocks(src: &[u8], at: usize) -> usize
-    requires { at ≤ length src.now }
-    ensures { Passed is_times true src.now at (length src.now) result }
-{
-    let mut j = at;
-    while 16 <= src.len() - j {
-        if has_foreign(src, j) {
-            return j;
-        }
-        j += 16;
-    }
-    j
-}
+impl Sort for Times {
+    ghost test = { is_times };
 
-// The first place of src[at..e] whose byte is not of times, or e: byte by byte.
-fn times_bytes(src: &[u8], at: usize, e: usize) -> usize
-    requires { (at ≤ e) × (e ≤ length src.now) }
-    ensures { Times src.now at e result }
-{
-    let mut j = at;
-    while j < e {
-        if is_foreign(src[j]) {
-            return j;
-        }
-        j += 1;
+    ghost answer = { true };
+
+    fn is_other(b: u8) -> bool {
+        is_foreign(b)
     }
-    j
+
+    fn goes_on(b: u8) -> bool {
+        !is_foreign(b)
+    }
 }
 
 // How many bytes of times stand at a place: sixteen are told one by one, then blocks, then one by one.
@@ -108,13 +85,14 @@ fn times_len(src: &[u8], at: usize) -> usize
     ensures { result ≡ times_len (drop at src.now) }
 {
     if src.len() - at <= 16 {
-        return times_bytes(src, at, src.len()) - at;
+        return pass_bytes::<Times>(src, at, src.len()) - at;
     }
-    let j = times_bytes(src, at, at + 16);
+    let j = pass_bytes::<Times>(src, at, at + 16);
     if j < at + 16 {
         return j - at;
     }
-    times_bytes(src, times_blocks(src, j), src.len()) - at
+    let k = pass_blocks::<Times>(src, j, src.len());
+    pass_bytes::<Times>(src, k, src.len()) - at
 }
 
 // How many bytes at a place agree with a word.
@@ -132,38 +110,32 @@ pub fn same(src: &[u8], at: usize, word: &[u8]) -> usize
     n
 }
 
-fn larger(a: usize, b: usize) -> usize
-    ensures { result ≡ max a b }
-{
-    if a < b { b } else { a }
-}
-
-// The entity whose `&` stands before a place.
-pub fn entity_at(src: &[u8], at: usize) -> Found
+// The entity whose `&` stands before a place: the length of its rest, and the byte that it means; or none, and so many bytes are right.
+pub fn entity_at(src: &[u8], at: usize) -> Result<(usize, u8), usize>
     requires { at ≤ length src.now }
     ensures { result ≡ entity_at (drop at src.now) }
 {
     let lt = same(src, at, b"lt;");
     if lt == 3 {
-        return Found::Hit(3, b'<');
+        return Ok((3, b'<'));
     }
     let gt = same(src, at, b"gt;");
     if gt == 3 {
-        return Found::Hit(3, b'>');
+        return Ok((3, b'>'));
     }
     let amp = same(src, at, b"amp;");
     if amp == 4 {
-        return Found::Hit(4, b'&');
+        return Ok((4, b'&'));
     }
     let quot = same(src, at, b"quot;");
     if quot == 5 {
-        return Found::Hit(5, b'"');
+        return Ok((5, b'"'));
     }
     let apos = same(src, at, b"apos;");
     if apos == 5 {
-        return Found::Hit(5, b'\'');
+        return Ok((5, b'\''));
     }
-    Found::Miss(larger(lt, larger(gt, larger(amp, larger(quot, larger(apos, 0))))))
+    Err(lt.max(gt.max(amp.max(quot.max(apos)))))
 }
 
 // A byte that is not plain: `<`, `&`, `]`, `>`, or one that is neither white space nor printed; told without a branch.
@@ -187,46 +159,21 @@ fn is_plain(b: u8) -> bool
     !is_special(b)
 }
 
-// Whether one of `count` bytes is not plain; without a branch, so that they are compared at once.
-fn has_other(src: &[u8], at: usize, count: usize) -> bool
-    requires { at + count ≤ length src.now }
-    ensures { result ≡ false → Each is_plain true src.now at (at + count) }
-{
-    let mut hit = false;
-    for i in 0..count {
-        hit = hit | is_special(src[at + i]);
-    }
-    hit
-}
+// The bytes after which a text goes on.
+struct Plain;
 
-// A place up to which the text has plain bytes alone, from a place on: blocks of sixteen.
-fn plain_blocks(src: &[u8], at: usize) -> usize
-    requires { at ≤ length src.now }
-    ensures { Passed is_plain true src.now at (length src.now) result }
-{
-    let mut j = at;
-    while 16 <= src.len() - j {
-        if has_other(src, j, 16) {
-            return j;
-        }
-        j += 16;
-    }
-    j
-}
+impl Sort for Plain {
+    ghost test = { is_plain };
 
-// The first place of src[at..e] whose byte is not plain, or e: byte by byte.
-fn plain_bytes(src: &[u8], at: usize, e: usize) -> usize
-    requires { (at ≤ e) × (e ≤ length src.now) }
-    ensures { Passed is_plain true src.now at e result }
-{
-    let mut j = at;
-    while j < e {
-        if !is_plain(src[j]) {
-            return j;
-        }
-        j += 1;
+    ghost answer = { true };
+
+    fn is_other(b: u8) -> bool {
+        is_special(b)
     }
-    j
+
+    fn goes_on(b: u8) -> bool {
+        is_plain(b)
+    }
 }
 
 // A place up to which the text has plain bytes alone, from a place on: eight one by one, then blocks, then one by one.
@@ -235,46 +182,48 @@ fn plain_run(src: &[u8], at: usize) -> usize
     ensures { Passed is_plain true src.now at (length src.now) result }
 {
     if src.len() - at <= 16 {
-        return plain_bytes(src, at, src.len());
+        return pass_bytes::<Plain>(src, at, src.len());
     }
-    let j = plain_bytes(src, at, at + 8);
+    let j = pass_bytes::<Plain>(src, at, at + 8);
     if j < at + 8 {
         return j;
     }
-    if has_other(src, j, 8) {
-        return plain_bytes(src, j, src.len());
+    if has_other::<Plain>(src, j, 8) {
+        return pass_bytes::<Plain>(src, j, src.len());
     }
-    plain_bytes(src, plain_blocks(src, j + 8), src.len())
+    let k = pass_blocks::<Plain>(src, j + 8, src.len());
+    pass_bytes::<Plain>(src, k, src.len())
 }
 
-// What a byte of a text means, after q times `]`; its class is asked of the bytes that mean nothing here.
-fn text_byte(src: &[u8], at: usize, q: usize) -> Next
+// What a byte of a text means, after q times `]`: the run is over; or it goes on after so many bytes more, with so many `]` before it; or
+// the byte so many bytes on is wrong. Its class is asked of the bytes that mean nothing here.
+fn text_byte(src: &[u8], at: usize, q: usize) -> Result<Option<(usize, usize)>, usize>
     requires { (at < length src.now) × (q ≤ at) }
     ensures { result ≡ text_byte q (get_or src.now at 0) (drop (at + 1) src.now) }
 {
     let b = src[at];
     if b == b'<' {
-        return Next::Over;
+        return Ok(None);
     }
     if b == b'&' {
         match entity_at(src, at + 1) {
-            Found::Hit(k, _) => return Next::On(k, 0),
-            Found::Miss(k) => return Next::Off(1 + k),
+            Ok((k, _)) => return Ok(Some((k, 0))),
+            Err(k) => return Err(1 + k),
         }
     }
     if b == b']' {
-        return Next::On(0, q + 1);
+        return Ok(Some((0, q + 1)));
     }
     if b == b'>' {
         if 2 <= q {
-            return Next::Off(0);
+            return Err(0);
         }
-        return Next::On(0, 0);
+        return Ok(Some((0, 0)));
     }
-    if class(b) < 1 {
-        return Next::Off(0);
+    if class(b) == ByteClass::Illegal {
+        return Err(0);
     }
-    Next::On(0, 0)
+    Ok(Some((0, 0)))
 }
 
 // How many times `]` stand before a place, where there were q before the plain bytes that lead to it.
@@ -284,8 +233,8 @@ fn brackets(q: usize, from: usize, to: usize) -> usize
     if from < to { 0 } else { q }
 }
 
-// How far a run of text goes.
-pub(crate) fn text_run(src: &[u8], at: usize) -> Run
+// How far a run of text goes: its length; or the offset of the wrong byte in it.
+pub(crate) fn text_run(src: &[u8], at: usize) -> Result<usize, usize>
     requires { at ≤ length src.now }
     ensures { result ≡ scanned 0 0 0 (drop at src.now) }
 {
@@ -293,33 +242,33 @@ pub(crate) fn text_run(src: &[u8], at: usize) -> Run
     let mut q = 0;
     while j < src.len() {
         match text_byte(src, j, q) {
-            Next::Over => return Run::Upto(j - at),
-            Next::Off(k) => return Run::Stop(j - at + k),
-            Next::On(k, r) => {
+            Ok(None) => return Ok(j - at),
+            Err(k) => return Err(j - at + k),
+            Ok(Some((k, r))) => {
                 let from = j + 1 + k;
                 j = plain_run(src, from);
                 q = brackets(r, from, j);
             }
         }
     }
-    Run::Upto(j - at)
+    Ok(j - at)
 }
 
-// An archive's start tag after its `<T`.
-fn times_tag(src: &[u8], at: usize) -> Run
+// An archive's start tag after its `<T`: how many bytes of times it has; or how far from the `<` the wrong byte stands.
+fn times_tag(src: &[u8], at: usize) -> Result<usize, usize>
     requires { at ≤ length src.now }
     ensures { TimesRead (drop at src.now) result }
 {
     let m = same(src, at, b" t=\"");
     if m != 4 {
-        return Run::Stop(2 + m);
+        return Err(2 + m);
     }
     let n = times_len(src, at + 4);
     let e = same(src, at + 4 + n, b"\">");
     if e != 2 {
-        return Run::Stop(6 + n + e);
+        return Err(6 + n + e);
     }
-    Run::Upto(n)
+    Ok(n)
 }
 
 // Whether a tag with times begins after a `<`: in an archive, with `T` and a space.
@@ -327,60 +276,54 @@ fn begins_times(src: &[u8], archive: bool, at: usize) -> bool
     requires { at ≤ length src.now }
     ensures { result ≡ begins_times archive (get_or src.now at 0) (get_or src.now (at + 1) 0) }
 {
-    if !archive {
-        return false;
-    }
-    if byte_at(src, at) != b'T' {
-        return false;
-    }
-    byte_at(src, at + 1) == b' '
+    archive && byte_at(src, at) == b'T' && byte_at(src, at + 1) == b' '
 }
 
-// A start tag after its `<`.
-pub(crate) fn start_tag(src: &[u8], archive: bool, at: usize) -> Start
+// A start tag after its `<`; or how far from the `<` the wrong byte stands.
+pub(crate) fn start_tag(src: &[u8], archive: bool, at: usize) -> Result<Start, usize>
     requires { at ≤ length src.now }
     ensures { StartRead archive (drop at src.now) result }
 {
     if begins_times(src, archive, at) {
-        match times_tag(src, at + 1) {
-            Run::Upto(k) => return Start::Timed(k),
-            Run::Stop(k) => return Start::Off(k),
-        }
+        return Ok(Start::Timed(times_tag(src, at + 1)?));
     }
     let n = name_len(src, at);
     if n == 0 {
-        return Start::Off(1);
+        return Err(1);
     }
     let b = byte_at(src, at + n);
     if b == b'>' {
-        return Start::Opens(n);
+        return Ok(Start::Opens(n));
     }
     if b != b'/' {
-        return Start::Off(1 + n);
+        return Err(1 + n);
     }
     if byte_at(src, at + n + 1) != b'>' {
-        return Start::Off(2 + n);
+        return Err(2 + n);
     }
-    Start::Lone(n)
+    Ok(Start::Lone(n))
 }
 
-// An end tag after its `</`: a name, and `>`.
-fn end_name(src: &[u8], at: usize, name: &[u8]) -> Run
+// An end tag after its `</`: a name, and `>`; the length of the name, or the offset of the wrong byte.
+fn end_name(src: &[u8], at: usize, name: &[u8]) -> Result<usize, usize>
     requires { at ≤ length src.now }
     ensures { EndNamed name.now (drop at src.now) result }
 {
     let m = same(src, at, name);
-    if m != name.len() {
-        return Run::Stop(m);
+    if m == name.len() && byte_at(src, at + m) == b'>' {
+        return Ok(m);
     }
-    if byte_at(src, at + m) != b'>' {
-        return Run::Stop(m);
-    }
-    Run::Upto(m)
+    Err(m)
 }
 
 // An end tag after its `</`, of what is open: of this kind, named by the bytes start to end.
-pub(crate) fn end_tag(src: &[u8], at: usize, start: usize, end: usize, kind: u32) -> Run
+pub(crate) fn end_tag(
+    src: &[u8],
+    at: usize,
+    start: usize,
+    end: usize,
+    kind: u32,
+) -> Result<usize, usize>
     requires { (at ≤ length src.now) × (start ≤ end) × (end ≤ length src.now) }
     ensures { EndRead kind (slice start end src.now) (drop at src.now) result }
 {

@@ -9,6 +9,7 @@ ghost use Rattle.xml.specs.Neat.{count, is_other, others, tags_below};
 
 use crate::class::is_white_byte;
 use crate::scan::byte_at;
+use crate::tape::Document;
 
 // How many of the nodes below hi are no runs of text.
 fn count_tags(tape: &[u32], hi: usize) -> usize
@@ -16,10 +17,8 @@ fn count_tags(tape: &[u32], hi: usize) -> usize
     ensures { (result ≡ tags_below tape.now hi) × (result ≤ hi) }
 {
     let mut n = 0;
-    let mut i = 0;
-    while i < hi {
+    for i in 0..hi {
         n += if tape[2 * i] % 4 == 0 { 0 } else { 1 };
-        i += 1;
     }
     n
 }
@@ -41,10 +40,8 @@ fn count_rest(src: &[u8], b: u8, at: usize) -> usize
     ensures { result ≡ count b (drop at src.now) }
 {
     let mut n = 0;
-    let mut i = at;
-    while i < src.len() {
+    for i in at..src.len() {
         n += if src[i] == b { 1 } else { 0 };
-        i += 1;
     }
     n
 }
@@ -86,12 +83,10 @@ fn has_other_rest(src: &[u8], at: usize) -> bool
     requires { length src.now ≤ 32768 }
     ensures { result ≡ others (drop at src.now) }
 {
-    let mut i = at;
-    while i < src.len() {
+    for i in at..src.len() {
         if is_other(src[i], byte_at(src, i + 1), byte_at(src, i + 2)) {
             return true;
         }
-        i += 1;
     }
     false
 }
@@ -112,11 +107,12 @@ fn has_other(src: &[u8]) -> bool
 }
 
 // Whether a text that was read onto the tape is spelled exactly as its forest is written.
-pub fn spelled(src: &[u8], tape: &[u32], hi: usize) -> bool
-    requires { Valid src.now tape.now 0 hi × (length src.now ≤ 32768) }
-    ensures { (a : Bool) (f : Forest) → read a src.now ≡ whole f → Tape src.now tape.now 0 hi f
-        → result ≡ same src.now (written f) }
+pub fn spelled(doc: &Document, hi: usize) -> bool
+    requires { Valid doc.now.src.now doc.now.tape.now 0 hi × (length doc.now.src.now ≤ 32768) }
+    ensures { (a : Bool) (f : Forest) → read a doc.now.src.now ≡ whole f → Tape doc.now.src.now doc.now.tape.now 0 hi f
+        → result ≡ same doc.now.src.now (written f) }
 {
+    let src = doc.src;
     if src.len() == 0 {
         return false;
     }
@@ -126,7 +122,7 @@ pub fn spelled(src: &[u8], tape: &[u32], hi: usize) -> bool
     if is_white_byte(src[src.len() - 1]) {
         return false;
     }
-    let tags = count_tags(tape, hi);
+    let tags = count_tags(doc.tape, hi);
     if count_of(src, b'<') != 2 * tags {
         return false;
     }

@@ -14,7 +14,7 @@ use crate::compare::{same_bytes, same_run};
 use crate::names::precedes;
 use crate::scan::byte_at;
 use crate::text::sign_at;
-use crate::writer::{put, put_part, put_word};
+use crate::writer::{put, put_word};
 
 // An attribute of a tag, whose space stands at a place i: its name ends before the `=`, and its value before the quote at `end`.
 #[derive(Clone, Copy)]
@@ -89,15 +89,11 @@ pub fn attr_count(s: &[u8]) -> usize
     n
 }
 
-// Whether s[a..e] is one byte, b.
-fn is_byte(s: &[u8], a: usize, e: usize, b: u8) -> bool
-    requires { (a ≤ e) × (e ≤ length s.now) }
-    ensures { result ≡ same (slice a e s.now) (b ∷ []) }
+// Whether a name is one byte, b.
+fn is_byte(name: &[u8], b: u8) -> bool
+    ensures { result ≡ same name.now (b ∷ []) }
 {
-    if e - a != 1 {
-        return false;
-    }
-    s[a] == b
+    same_bytes(name, &[b])
 }
 
 // How many attributes of a tag are not named `t`.
@@ -109,7 +105,7 @@ fn count_but(s: &[u8]) -> usize
     let mut i = name_end(s);
     while i < s.len() {
         let p = part_at(s, i);
-        if !is_byte(s, i + 1, p.equals, b't') {
+        if !is_byte(&s[i + 1..p.equals], b't') {
             n += 1;
         }
         i = p.end + 1;
@@ -122,7 +118,7 @@ pub fn tag_nodes(s: &[u8]) -> usize
     requires { IsTag s.now × (length s.now ≤ 32768) }
     ensures { result ≡ tag_nodes s.now }
 {
-    if is_byte(s, 0, name_end(s), b'T') {
+    if is_byte(&s[..name_end(s)], b'T') {
         return count_but(s);
     }
     1 + attr_count(s)
@@ -134,12 +130,12 @@ pub fn named_t(s: &[u8]) -> bool
     ensures { result ≡ named_t s.now }
 {
     let mut i = name_end(s);
-    if is_byte(s, 0, i, b'T') {
+    if is_byte(&s[..i], b'T') {
         return true;
     }
     while i < s.len() {
         let p = part_at(s, i);
-        if is_byte(s, i + 1, p.equals, b'T') {
+        if is_byte(&s[i + 1..p.equals], b'T') {
             return true;
         }
         i = p.end + 1;
@@ -164,28 +160,28 @@ fn put_quoted(b: u8, out: &mut [u8], at: usize) -> usize
     put(b, out, at)
 }
 
-// Writes what the value s[a..e] means.
-pub fn put_value(s: &[u8], a: usize, e: usize, out: &mut [u8], at: usize) -> usize
-    requires { (a ≤ e) × (e ≤ length s.now) × (e - a ≤ 32768) × (at < 2 ^ 61 + 2 ^ 60) }
-    ensures { Wrote out.old at (quoted (slice a e s.now)) result out.new }
+// Writes what the raw bytes of a value mean.
+pub fn put_value(value: &[u8], out: &mut [u8], at: usize) -> usize
+    requires { (length value.now ≤ 32768) × (at < 2 ^ 61 + 2 ^ 60) }
+    ensures { Wrote out.old at (quoted value.now) result out.new }
 {
-    let mut i = a;
+    let mut i = 0;
     let mut to = at;
-    while i < e {
-        let g = sign_at(s, i, e);
+    while i < value.len() {
+        let g = sign_at(value, i, value.len());
         to = put_quoted(g.byte, out, to);
         i = g.next;
     }
     to
 }
 
-// How long the value s[a..e] is, written.
-fn value_len(s: &[u8], a: usize, e: usize) -> usize
-    requires { (a ≤ e) × (e ≤ length s.now) × (e - a ≤ 32768) }
-    ensures { result ≡ length (quoted (slice a e s.now)) }
+// How long a value is, written.
+fn value_len(value: &[u8]) -> usize
+    requires { length value.now ≤ 32768 }
+    ensures { result ≡ length (quoted value.now) }
 {
     let mut none = [0u8; 0];
-    put_value(s, a, e, &mut none, 0)
+    put_value(value, &mut none, 0)
 }
 
 // How long a tag is, written: its attributes in any order.
@@ -197,7 +193,7 @@ pub fn tag_len(s: &[u8]) -> usize
     let mut n = i;
     while i < s.len() {
         let p = part_at(s, i);
-        n += p.equals - i + 3 + value_len(s, p.equals + 2, p.end);
+        n += p.equals - i + 3 + value_len(&s[p.equals + 2..p.end]);
         i = p.end + 1;
     }
     n
@@ -208,14 +204,14 @@ fn nearer(s: &[u8], a: usize, e: usize, best: usize, i: usize, equals: usize) ->
     requires { (length s.now ≤ 32768) × (best ≤ length s.now) × Parts s.now a e s.now (i + 1) equals }
     ensures { result ≡ nearer_of s.now (slice a e s.now) best i (slice (i + 1) equals s.now) }
 {
-    if !precedes(s, a, e, s, i + 1, equals) {
+    if !precedes(&s[a..e], &s[i + 1..equals]) {
         return best;
     }
     if best == s.len() {
         return i;
     }
     let end = best + 1 + until_byte(s, best + 1, b'=');
-    if precedes(s, i + 1, equals, s, best + 1, end) {
+    if precedes(&s[i + 1..equals], &s[best + 1..end]) {
         return i;
     }
     best
@@ -241,9 +237,9 @@ fn put_attr(s: &[u8], i: usize, p: Part, out: &mut [u8], at: usize) -> usize
     requires { PartIn s.now i p × (length s.now ≤ 32768) × (at < 2 ^ 61 + 2 ^ 59) }
     ensures { Wrote out.old at (attr_text (means (attr_in s.now i p) ∷ [])) result out.new }
 {
-    let quote = put_part(s, i, p.equals + 1, out, at);
+    let quote = put_word(&s[i..p.equals + 1], out, at);
     let value = put(b'"', out, quote);
-    let end = put_value(s, p.equals + 2, p.end, out, value);
+    let end = put_value(&s[p.equals + 2..p.end], out, value);
     put(b'"', out, end)
 }
 
@@ -253,9 +249,9 @@ pub fn put_tag(s: &[u8], out: &mut [u8], at: usize) -> usize
     ensures { Wrote out.old at (tag_of s.now) result out.new }
 {
     if is_bare(s) {
-        return put_part(s, 0, s.len(), out, at);
+        return put_word(s, out, at);
     }
-    let mut to = put_part(s, 0, name_end(s), out, at);
+    let mut to = put_word(&s[..name_end(s)], out, at);
     let mut i = next_part(s, 0, 0);
     while i < s.len() {
         let p = part_at(s, i);
@@ -270,10 +266,10 @@ fn same_parts(s1: &[u8], i: usize, p: Part, s2: &[u8], j: usize, q: Part) -> boo
     requires { PartIn s1.now i p × PartIn s2.now j q }
     ensures { result ≡ alike (attr_in s1.now i p) (attr_in s2.now j q) }
 {
-    if !same_bytes(s1, i + 1, p.equals, s2, j + 1, q.equals) {
+    if !same_bytes(&s1[i + 1..p.equals], &s2[j + 1..q.equals]) {
         return false;
     }
-    same_run(s1, p.equals + 2, p.end, s2, q.equals + 2, q.end)
+    same_run(&s1[p.equals + 2..p.end], &s2[q.equals + 2..q.end])
 }
 
 // Whether the attributes of two tags mean the same, one after another by ascending names.
@@ -303,7 +299,7 @@ pub fn same_tags(s1: &[u8], s2: &[u8]) -> bool
     requires { IsTag s1.now × (length s1.now ≤ 32768) × IsTag s2.now × (length s2.now ≤ 32768) }
     ensures { result ≡ same (tag_of s1.now) (tag_of s2.now) }
 {
-    if same_bytes(s1, 0, s1.len(), s2, 0, s2.len()) {
+    if same_bytes(s1, s2) {
         return true;
     }
     if is_bare(s1) {
@@ -312,7 +308,7 @@ pub fn same_tags(s1: &[u8], s2: &[u8]) -> bool
     if is_bare(s2) {
         return false;
     }
-    if !same_bytes(s1, 0, name_end(s1), s2, 0, name_end(s2)) {
+    if !same_bytes(&s1[..name_end(s1)], &s2[..name_end(s2)]) {
         return false;
     }
     same_attrs(s1, s2)

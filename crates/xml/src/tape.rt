@@ -1,5 +1,6 @@
 // The nodes of the tape: the one way to read a node's two cells; and cells that are cleared.
 ghost use Rattle.std.specs.Prelude.{◌≡◌, ◌+◌, ◌*◌, ◌<◌, ◌≤◌, length, replicate};
+ghost use Rattle.std.proofs.Math.Seq.{slice};
 ghost use Rattle.xml.specs.Views.{view_at, is_run};
 
 // The bytes start to end of the text name the node; kind 0 is a run of text, 1 an element, 2 an archive's `T`; next is the first node
@@ -10,6 +11,31 @@ pub struct View {
     pub end: usize,
     pub kind: u32,
     pub next: usize,
+}
+
+// A text, and the cells onto which it was read.
+#[derive(Clone, Copy)]
+pub struct Document<'a> {
+    pub src: &'a [u8],
+    pub tape: &'a [u32],
+}
+
+impl Document<'_> {
+    // What the cells of the node p say.
+    pub fn view(&self, p: usize) -> View
+        requires { 2 * p + 1 < length self.now.tape.now }
+        ensures { result ≡ view_at self.now.tape.now p }
+    {
+        view_at(self.tape, p)
+    }
+
+    // The bytes that name a node.
+    pub fn part(&self, v: View) -> &[u8]
+        requires { (v.start ≤ v.end) × (v.end ≤ length self.now.src.now) }
+        ensures { result.now ≡ slice v.start v.end self.now.src.now }
+    {
+        &self.src[v.start..v.end]
+    }
 }
 
 pub fn view_at(tape: &[u32], p: usize) -> View
@@ -41,9 +67,5 @@ pub fn is_run(tape: &[u32], lo: usize, hi: usize) -> bool
 pub fn clear(cells: &mut [u32])
     ensures { cells.new ≡ replicate (length cells.old) 0 }
 {
-    let mut i = 0;
-    while i < cells.len() {
-        cells[i] = 0;
-        i += 1;
-    }
+    cells.fill(0);
 }

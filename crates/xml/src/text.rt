@@ -2,11 +2,10 @@
 ghost use Rattle.std.specs.Prelude.{◌≡◌, false, ◌+◌, ◌<◌, ◌≤◌, length};
 ghost use Rattle.std.proofs.Math.Seq.{slice};
 ghost use Rattle.xml.specs.Signs.{is_marked, plain_len, sign_return, sign_at};
-ghost use Rattle.xml.specs.Stretch.{Each, Passed};
 
-use crate::Found;
 use crate::class::is_markup;
 use crate::scan::{byte_at, entity_at};
+use crate::stretch::{Sort, pass_blocks, pass_bytes};
 
 // The byte that is meant at a place of a run, and the place after what stands for it.
 #[derive(Clone, Copy)]
@@ -49,11 +48,11 @@ pub fn sign_at(src: &[u8], i: usize, e: usize) -> Sign
         };
     }
     match entity_at(&src[..e], i + 1) {
-        Found::Hit(n, c) => Sign {
+        Ok((n, c)) => Sign {
             byte: c,
             next: i + 1 + n,
         },
-        Found::Miss(_) => Sign {
+        Err(_) => Sign {
             byte: b,
             next: i + 1,
         },
@@ -67,46 +66,21 @@ fn is_marked(b: u8) -> bool
     is_markup(b) | (b == b'>') | (b == b'\r')
 }
 
-// Whether one of sixteen bytes is marked; without a branch, so that they are compared at once.
-fn has_marked(src: &[u8], at: usize) -> bool
-    requires { at + 16 ≤ length src.now }
-    ensures { result ≡ false → Each is_marked false src.now at (at + 16) }
-{
-    let mut hit = false;
-    for i in 0..16 {
-        hit = hit | is_marked(src[at + i]);
-    }
-    hit
-}
+// The bytes that are written as they stand.
+struct Unmarked;
 
-// A place up to which no byte of src[i..e] is marked: blocks of sixteen.
-fn plain_blocks(src: &[u8], i: usize, e: usize) -> usize
-    requires { (i ≤ e) × (e ≤ length src.now) }
-    ensures { Passed is_marked false src.now i e result }
-{
-    let mut j = i;
-    while 16 <= e - j {
-        if has_marked(src, j) {
-            return j;
-        }
-        j += 16;
-    }
-    j
-}
+impl Sort for Unmarked {
+    ghost test = { is_marked };
 
-// The first place of src[i..e] whose byte is marked, or e: byte by byte.
-fn plain_bytes(src: &[u8], i: usize, e: usize) -> usize
-    requires { (i ≤ e) × (e ≤ length src.now) }
-    ensures { result ≡ i + plain_len (slice i e src.now) }
-{
-    let mut j = i;
-    while j < e {
-        if is_marked(src[j]) {
-            return j;
-        }
-        j += 1;
+    ghost answer = { false };
+
+    fn is_other(b: u8) -> bool {
+        is_marked(b)
     }
-    j
+
+    fn goes_on(b: u8) -> bool {
+        !is_marked(b)
+    }
 }
 
 // The first place of src[i..e] whose byte is not written as it stands, or e: whole blocks first, then byte by byte.
@@ -114,5 +88,6 @@ pub fn plain_end(src: &[u8], i: usize, e: usize) -> usize
     requires { (i ≤ e) × (e ≤ length src.now) }
     ensures { result ≡ i + plain_len (slice i e src.now) }
 {
-    plain_bytes(src, plain_blocks(src, i, e), e)
+    let j = pass_blocks::<Unmarked>(src, i, e);
+    pass_bytes::<Unmarked>(src, j, e)
 }

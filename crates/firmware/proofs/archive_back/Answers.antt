@@ -1,18 +1,23 @@
 -- `archive_back` meets its contract.
-use Rattle.archive.specs.Entries.{entry-told, entry-long, told-as, back-by-marks, lends-whole}
+use Rattle.std.proofs.Common.{◌∙◌, rules}
+use Rattle.archive.specs.Entries.{entry-told, entry-long, told-as, lends-whole, back-by-marks}
+use Rattle.firmware.specs.Stepped.{bytes-after}
 use Rattle.firmware.proofs.archive_back.Goals as goal
 
-pub back_short-m-requires : goal.back_short-m-requires
-back_short-m-requires c = (c.if-archive-le-FEW.true, lends-whole _ _ c.table_from-t.ensures)
+pub back_on-requires : goal.back_on-requires
+back_on-requires c = (search rules, search rules, lends-whole _ _ c.table_from-t.ensures)
 
-pub put_back-requires : goal.put_back-requires
-put_back-requires c = λ z. entry-long (back-by-marks _ _ _ _) _ _ c.table_from-t.ensures c.back_short-m.ensures z
+pub told_table-requires : goal.told_table-requires
+told_table-requires c = λ z. entry-long (back-by-marks _ _ _ _) _ _ c.table_from-t.ensures c.back_on.ensures z
 
 pub returns-then-archive-le-FEW : goal.returns-then-archive-le-FEW
-returns-then-archive-le-FEW c = told-as c.put_back.ensures.0 c.put_back.ensures.1 (entry-told (back-by-marks _ _ _ _) _ _ c.table_from-t.ensures c.back_short-m.ensures)
+returns-then-archive-le-FEW c = told-as c.told_table.ensures.0 c.told_table.ensures.1 (c.told_table.ensures.2 ∙ bytes-after c.back_on.result c.table_from-t.result.held c.args.marks.now) (entry-told (back-by-marks _ _ _ _) _ _ c.table_from-t.ensures c.back_on.ensures)
 
-pub put_back-requires-2 : goal.put_back-requires-2
-put_back-requires-2 c = λ z. entry-long (back-by-marks _ _ _ _) _ _ c.table_from-t.ensures c.back_long-m.ensures z
+pub back_on-requires-2 : goal.back_on-requires-2
+back_on-requires-2 c = (search rules, search rules, lends-whole _ _ c.table_from-t.ensures)
+
+pub told_table-requires-2 : goal.told_table-requires-2
+told_table-requires-2 c = λ z. entry-long (back-by-marks _ _ _ _) _ _ c.table_from-t.ensures c.back_on-2.ensures z
 
 pub returns : goal.returns
-returns c = told-as c.put_back-2.ensures.0 c.put_back-2.ensures.1 (entry-told (back-by-marks _ _ _ _) _ _ c.table_from-t.ensures c.back_long-m.ensures)
+returns c = told-as c.told_table-2.ensures.0 c.told_table-2.ensures.1 (c.told_table-2.ensures.2 ∙ bytes-after c.back_on-2.result c.table_from-t.result.held c.args.marks.now) (entry-told (back-by-marks _ _ _ _) _ _ c.table_from-t.ensures c.back_on-2.ensures)

@@ -17,10 +17,10 @@ abbrev pub decreases-write_added : goal.decreases-write_added
 decreases-write_added l = 2 * (l.hi - l.lo) + 1
 
 abbrev pub decreases-write_both : goal.decreases-write_both
-decreases-write_both l = 2 * (next_at l.tape.now l.p - l.p)
+decreases-write_both l = 2 * (next_at l.archive.now.tape.now l.p - l.p)
 
 abbrev pub invariant-write_added-loop-p : goal.invariant-write_added-loop-p
-invariant-write_added-loop-p l = (l.lo ≤ l.p) × (l.vlo ≤ l.q) × (l.to + 262144 * (l.hi - l.p + (l.vhi - l.q)) ≤ l.at + 262144 * (l.hi - l.lo + (l.vhi - l.vlo))) × (l.fresh + (l.vhi - l.q) ≤ l.vhi - l.vlo) × (length l.out ≡ length l.initial.out) × ((K : KeyList) (w : Path) (u : Times) (f v : Forest) → Held l.text l.table l.paths l.place l.src l.tape l.lo l.hi l.vsrc l.vtape l.vlo l.vhi l.n l.around.start l.around.end K w u f v → above K w ≡ true → Way l.src l.tape l.p l.hi l.vsrc l.vtape l.q l.vhi l.n K w u (add_in K l.n w u f v) f l.initial.out l.at l.to l.out l.fresh)
+invariant-write_added-loop-p l = (l.lo ≤ l.p) × (l.vlo ≤ l.q) × (l.to + 262144 * (l.hi - l.p + (l.vhi - l.q)) ≤ l.at + 262144 * (l.hi - l.lo + (l.vhi - l.vlo))) × (l.fresh + (l.vhi - l.q) ≤ l.vhi - l.vlo) × (length l.out ≡ length l.initial.out) × ((K : KeyList) (w : Path) (u : Times) (f v : Forest) → Held l.keys.text.now l.keys.table.now l.keys.paths l.place l.archive.src.now l.archive.tape.now l.lo l.hi l.version.src.now l.version.tape.now l.vlo l.vhi l.n l.around.start l.around.end K w u f v → above K w ≡ true → Way l.archive.src.now l.archive.tape.now l.p l.hi l.version.src.now l.version.tape.now l.q l.vhi l.n K w u (add_in K l.n w u f v) f l.initial.out l.at l.to l.out l.fresh)
 
 abbrev pub decreases-write_added-loop-p : goal.decreases-write_added-loop-p
 decreases-write_added-loop-p l = l.hi - l.p + (l.vhi - l.q)

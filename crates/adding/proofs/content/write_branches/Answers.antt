@@ -18,36 +18,36 @@ use Rattle.adding.proofs.content.write_branches.Goals as goal
 pub loop-p-init : goal.loop-p-init
 loop-p-init c = (omega arith, c.requires.0, omega arith, refl, λ f v h g b. passing-none h b)
 
-pub view_at-v-requires : goal.view_at-v-requires
-view_at-v-requires c =
-    let turn : Front c.args.src.now c.args.tape.now c.loop-p.p c.args.hi = front c.loop-p.invariant.1.tape c.loop-p-test.true in
+pub view-v-requires : goal.view-v-requires
+view-v-requires c =
+    let turn : Front c.args.archive.now.src.now c.args.archive.now.tape.now c.loop-p.p c.args.hi = front c.loop-p.invariant.1.tape c.loop-p-test.true in
     turn.held
 
 pub overflow_add-p : goal.overflow_add-p
 overflow_add-p c = omega (arith, c.requires.3, c.loop-p-test.true)
 
 pub same_nodes-requires : goal.same_nodes-requires
-same_nodes-requires c = rw c.view_at-v.ensures (c.requires.1, valid-inside (branches-valid c.loop-p.invariant.1) c.loop-p-test.true)
+same_nodes-requires c = rw c.view-v.ensures (c.requires.1, valid-inside (branches-valid c.loop-p.invariant.1) c.loop-p-test.true)
 
 pub overflow_add-p-then-same_nodes : goal.overflow_add-p-then-same_nodes
 overflow_add-p-then-same_nodes c = omega (arith, c.requires.3, c.loop-p-test.true)
 
 pub put_more-rest-requires : goal.put_more-rest-requires
 put_more-rest-requires c =
-    let turn : Front c.args.src.now c.args.tape.now c.loop-p.p c.args.hi = front c.loop-p.invariant.1.tape c.loop-p-test.true in
-    let says : Says c.args.n c.args.src.now (start_in (head_at c.args.tape.now c.loop-p.p)) (end_in (head_at c.args.tape.now c.loop-p.p)) (times_in c.args.n (bytes_at c.args.src.now c.args.tape.now c.loop-p.p)) = legal-says c.args.n (start_in (head_at c.args.tape.now c.loop-p.p)) (end_in (head_at c.args.tape.now c.loop-p.p)) c.args.src.now (omega (arith, c.requires.2)) (omega arith) (turn).within (branches-set c.loop-p.invariant.1 c.loop-p-test.true) in
-    let y = says in rw c.view_at-v.ensures (y.ordered, y.within, y.short, says-set y, c.requires.2, valid-inside (branches-valid c.loop-p.invariant.1) c.loop-p-test.true, omega (arith, turn.inside, c.requires.3), omega (arith, c.loop-p.invariant.2, c.loop-p.invariant.0, c.requires.3, c.requires.5, c.loop-p-test.true))
+    let turn : Front c.args.archive.now.src.now c.args.archive.now.tape.now c.loop-p.p c.args.hi = front c.loop-p.invariant.1.tape c.loop-p-test.true in
+    let says : Says c.args.n c.args.archive.now.src.now (start_in (head_at c.args.archive.now.tape.now c.loop-p.p)) (end_in (head_at c.args.archive.now.tape.now c.loop-p.p)) (times_in c.args.n (bytes_at c.args.archive.now.src.now c.args.archive.now.tape.now c.loop-p.p)) = legal-says c.args.n (start_in (head_at c.args.archive.now.tape.now c.loop-p.p)) (end_in (head_at c.args.archive.now.tape.now c.loop-p.p)) c.args.archive.now.src.now (omega (arith, c.requires.2)) (omega arith) (turn).within (branches-set c.loop-p.invariant.1 c.loop-p-test.true) in
+    let y = says in rw c.view-v.ensures (y.ordered, y.within, y.short, says-set y, c.requires.2, valid-inside (branches-valid c.loop-p.invariant.1) c.loop-p-test.true, omega (arith, turn.inside, c.requires.3), omega (arith, c.loop-p.invariant.2, c.loop-p.invariant.0, c.requires.3, c.requires.5, c.loop-p-test.true))
 
 pub write_at-last-requires : goal.write_at-last-requires
 write_at-last-requires c =
-    let turn : Front c.args.src.now c.args.tape.now c.loop-p.p c.args.hi = front c.loop-p.invariant.1.tape c.loop-p-test.true in
-    rw c.view_at-v.ensures (branches-valid (branches-rest c.loop-p.invariant.1 c.loop-p-test.true), c.requires.3, omega (arith, rw c.view_at-v.ensures at c.put_more-rest.ensures.1, turn.inside, c.loop-p.invariant.2, c.loop-p.invariant.0, c.requires.3, c.requires.5, c.loop-p-test.true))
+    let turn : Front c.args.archive.now.src.now c.args.archive.now.tape.now c.loop-p.p c.args.hi = front c.loop-p.invariant.1.tape c.loop-p-test.true in
+    rw c.view-v.ensures (branches-valid (branches-rest c.loop-p.invariant.1 c.loop-p-test.true), c.requires.3, omega (arith, rw c.view-v.ensures at c.put_more-rest.ensures.1, turn.inside, c.loop-p.invariant.2, c.loop-p.invariant.0, c.requires.3, c.requires.5, c.loop-p-test.true))
 
 pub shape_of-out-then-same_nodes : goal.shape_of-out-then-same_nodes
 shape_of-out-then-same_nodes c =
-    let turn : Front c.args.src.now c.args.tape.now c.loop-p.p c.args.hi = front c.loop-p.invariant.1.tape c.loop-p-test.true in
-    let says : Says c.args.n c.args.src.now (start_in (head_at c.args.tape.now c.loop-p.p)) (end_in (head_at c.args.tape.now c.loop-p.p)) (times_in c.args.n (bytes_at c.args.src.now c.args.tape.now c.loop-p.p)) = legal-says c.args.n (start_in (head_at c.args.tape.now c.loop-p.p)) (end_in (head_at c.args.tape.now c.loop-p.p)) c.args.src.now (omega (arith, c.requires.2)) (omega arith) (turn).within (branches-set c.loop-p.invariant.1 c.loop-p-test.true) in
-    let e = c.view_at-v.ensures in
+    let turn : Front c.args.archive.now.src.now c.args.archive.now.tape.now c.loop-p.p c.args.hi = front c.loop-p.invariant.1.tape c.loop-p-test.true in
+    let says : Says c.args.n c.args.archive.now.src.now (start_in (head_at c.args.archive.now.tape.now c.loop-p.p)) (end_in (head_at c.args.archive.now.tape.now c.loop-p.p)) (times_in c.args.n (bytes_at c.args.archive.now.src.now c.args.archive.now.tape.now c.loop-p.p)) = legal-says c.args.n (start_in (head_at c.args.archive.now.tape.now c.loop-p.p)) (end_in (head_at c.args.archive.now.tape.now c.loop-p.p)) c.args.archive.now.src.now (omega (arith, c.requires.2)) (omega arith) (turn).within (branches-set c.loop-p.invariant.1 c.loop-p-test.true) in
+    let e = c.view-v.ensures in
     let w = says in
     let y = branches-rest c.loop-p.invariant.1 c.loop-p-test.true in
     let z = valid-inside (branches-valid c.loop-p.invariant.1) c.loop-p-test.true in
@@ -55,9 +55,9 @@ shape_of-out-then-same_nodes c =
 
 pub returns-then-same_nodes : goal.returns-then-same_nodes
 returns-then-same_nodes c f v h g b u =
-    let turn : Front c.args.src.now c.args.tape.now c.loop-p.p c.args.hi = front c.loop-p.invariant.1.tape c.loop-p-test.true in
-    let says : Says c.args.n c.args.src.now (start_in (head_at c.args.tape.now c.loop-p.p)) (end_in (head_at c.args.tape.now c.loop-p.p)) (times_in c.args.n (bytes_at c.args.src.now c.args.tape.now c.loop-p.p)) = legal-says c.args.n (start_in (head_at c.args.tape.now c.loop-p.p)) (end_in (head_at c.args.tape.now c.loop-p.p)) c.args.src.now (omega (arith, c.requires.2)) (omega arith) (turn).within (branches-set c.loop-p.invariant.1 c.loop-p-test.true) in
-    let e = c.view_at-v.ensures in
+    let turn : Front c.args.archive.now.src.now c.args.archive.now.tape.now c.loop-p.p c.args.hi = front c.loop-p.invariant.1.tape c.loop-p-test.true in
+    let says : Says c.args.n c.args.archive.now.src.now (start_in (head_at c.args.archive.now.tape.now c.loop-p.p)) (end_in (head_at c.args.archive.now.tape.now c.loop-p.p)) (times_in c.args.n (bytes_at c.args.archive.now.src.now c.args.archive.now.tape.now c.loop-p.p)) = legal-says c.args.n (start_in (head_at c.args.archive.now.tape.now c.loop-p.p)) (end_in (head_at c.args.archive.now.tape.now c.loop-p.p)) c.args.archive.now.src.now (omega (arith, c.requires.2)) (omega arith) (turn).within (branches-set c.loop-p.invariant.1 c.loop-p-test.true) in
+    let e = c.view-v.ensures in
     let t = turn in
     let x = c.loop-p.invariant.4 f v h g b in
     let s = says in
@@ -69,18 +69,18 @@ returns-then-same_nodes c f v h g b u =
 
 pub write_at-to-requires : goal.write_at-to-requires
 write_at-to-requires c =
-    let turn : Front c.args.src.now c.args.tape.now c.loop-p.p c.args.hi = front c.loop-p.invariant.1.tape c.loop-p-test.true in
-    rw c.view_at-v.ensures (valid-first (branches-valid c.loop-p.invariant.1) c.loop-p-test.true, omega (arith, turn.inside, c.requires.3), omega (arith, c.loop-p.invariant.2, c.loop-p.invariant.0, c.requires.3, c.requires.5, c.loop-p-test.true))
+    let turn : Front c.args.archive.now.src.now c.args.archive.now.tape.now c.loop-p.p c.args.hi = front c.loop-p.invariant.1.tape c.loop-p-test.true in
+    rw c.view-v.ensures (valid-first (branches-valid c.loop-p.invariant.1) c.loop-p-test.true, omega (arith, turn.inside, c.requires.3), omega (arith, c.loop-p.invariant.2, c.loop-p.invariant.0, c.requires.3, c.requires.5, c.loop-p-test.true))
 
 pub loop-p-smaller : goal.loop-p-smaller
 loop-p-smaller c =
-    let turn : Front c.args.src.now c.args.tape.now c.loop-p.p c.args.hi = front c.loop-p.invariant.1.tape c.loop-p-test.true in
-    rw c.view_at-v.ensures (omega (arith, turn.forward, turn.inside))
+    let turn : Front c.args.archive.now.src.now c.args.archive.now.tape.now c.loop-p.p c.args.hi = front c.loop-p.invariant.1.tape c.loop-p-test.true in
+    rw c.view-v.ensures (omega (arith, turn.forward, turn.inside))
 
 pub loop-p-preserved : goal.loop-p-preserved
 loop-p-preserved c =
-    let turn : Front c.args.src.now c.args.tape.now c.loop-p.p c.args.hi = front c.loop-p.invariant.1.tape c.loop-p-test.true in
-    let e = c.view_at-v.ensures in
+    let turn : Front c.args.archive.now.src.now c.args.archive.now.tape.now c.loop-p.p c.args.hi = front c.loop-p.invariant.1.tape c.loop-p-test.true in
+    let e = c.view-v.ensures in
     let t = turn in
     let l = c.loop-p-test.true in
     let y = valid-first (branches-valid c.loop-p.invariant.1) l in

@@ -10,7 +10,7 @@ use Rattle.versions.specs.AddFront.{SomeBranches, Passing}
 use Rattle.adding.proofs.content.write_branches.Given as goal
 
 abbrev pub invariant-loop-p : goal.invariant-loop-p
-invariant-loop-p l = (l.lo ≤ l.p) × SomeBranches l.n l.src l.tape l.p l.hi × (l.to ≤ l.at + 163840 * (l.p - l.lo)) × (length l.out ≡ length l.initial.out) × ((f v : Forest) → Tape l.src l.tape l.lo l.hi f → Tape l.vsrc l.vtape l.vlo l.vhi v → BranchesIn l.n f → Passing l.src l.tape l.p l.hi l.n v (add_branch l.n v f) f l.initial.out l.at l.to l.out)
+invariant-loop-p l = (l.lo ≤ l.p) × SomeBranches l.n l.archive.src.now l.archive.tape.now l.p l.hi × (l.to ≤ l.at + 163840 * (l.p - l.lo)) × (length l.out ≡ length l.initial.out) × ((f v : Forest) → Tape l.archive.src.now l.archive.tape.now l.lo l.hi f → Tape l.version.src.now l.version.tape.now l.vlo l.vhi v → BranchesIn l.n f → Passing l.archive.src.now l.archive.tape.now l.p l.hi l.n v (add_branch l.n v f) f l.initial.out l.at l.to l.out)
 
 abbrev pub decreases-loop-p : goal.decreases-loop-p
 decreases-loop-p l = l.hi - l.p

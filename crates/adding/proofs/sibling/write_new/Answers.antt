@@ -11,9 +11,9 @@ use Rattle.adding.proofs.sibling.write_new.Goals as goal
 pub loop-q-init : goal.loop-q-init
 loop-q-init c = (omega arith, c.requires.1, omega arith, refl, λ K w v h x. newer-none h x)
 
-pub view_at-w-requires : goal.view_at-w-requires
-view_at-w-requires c =
-    let turn : Front c.args.vsrc.now c.args.vtape.now c.loop-q.q c.args.vhi = front c.loop-q.invariant.1.tape c.loop-q-test.true in
+pub view-w-requires : goal.view-w-requires
+view-w-requires c =
+    let turn : Front c.args.version.now.src.now c.args.version.now.tape.now c.loop-q.q c.args.vhi = front c.loop-q.invariant.1.tape c.loop-q-test.true in
     turn.held
 
 pub slice_bounds-put_newest-count : goal.slice_bounds-put_newest-count
@@ -24,24 +24,24 @@ slice_bounds-put_newest-start c = omega (arith, c.least-from.ensures)
 
 pub put_newest-to-requires : goal.put_newest-to-requires
 put_newest-to-requires c =
-    let turn : Front c.args.vsrc.now c.args.vtape.now c.loop-q.q c.args.vhi = front c.loop-q.invariant.1.tape c.loop-q-test.true in
-    let t = turn in rw c.view_at-w.ensures (c.requires.0, valid-first c.loop-q.invariant.1 c.loop-q-test.true, omega (arith, t.inside, c.requires.2), omega (arith, c.loop-q.invariant.0, c.loop-q.invariant.2, c.requires.3, c.loop-q-test.true))
+    let turn : Front c.args.version.now.src.now c.args.version.now.tape.now c.loop-q.q c.args.vhi = front c.loop-q.invariant.1.tape c.loop-q-test.true in
+    let t = turn in rw c.view-w.ensures (c.requires.0, valid-first c.loop-q.invariant.1 c.loop-q-test.true, omega (arith, t.inside, c.requires.2), omega (arith, c.loop-q.invariant.0, c.loop-q.invariant.2, c.requires.3, c.loop-q-test.true))
 
 pub overflow_add-to : goal.overflow_add-to
 overflow_add-to c =
-    let turn : Front c.args.vsrc.now c.args.vtape.now c.loop-q.q c.args.vhi = front c.loop-q.invariant.1.tape c.loop-q-test.true in
+    let turn : Front c.args.version.now.src.now c.args.version.now.tape.now c.loop-q.q c.args.vhi = front c.loop-q.invariant.1.tape c.loop-q-test.true in
     let t = turn in
-    omega (arith, t.forward, t.inside, c.loop-q.invariant.0, c.loop-q.invariant.2, c.requires.3, (rw c.view_at-w.ensures at c.put_newest-to.ensures).1)
+    omega (arith, t.forward, t.inside, c.loop-q.invariant.0, c.loop-q.invariant.2, c.requires.3, (rw c.view-w.ensures at c.put_newest-to.ensures).1)
 
 pub loop-q-smaller : goal.loop-q-smaller
 loop-q-smaller c =
-    let turn : Front c.args.vsrc.now c.args.vtape.now c.loop-q.q c.args.vhi = front c.loop-q.invariant.1.tape c.loop-q-test.true in
-    let t = turn in rw c.view_at-w.ensures (omega (arith, t.forward, t.inside))
+    let turn : Front c.args.version.now.src.now c.args.version.now.tape.now c.loop-q.q c.args.vhi = front c.loop-q.invariant.1.tape c.loop-q-test.true in
+    let t = turn in rw c.view-w.ensures (omega (arith, t.forward, t.inside))
 
 pub loop-q-preserved : goal.loop-q-preserved
 loop-q-preserved c =
-    let turn : Front c.args.vsrc.now c.args.vtape.now c.loop-q.q c.args.vhi = front c.loop-q.invariant.1.tape c.loop-q-test.true in
-    let e = c.view_at-w.ensures in
+    let turn : Front c.args.version.now.src.now c.args.version.now.tape.now c.loop-q.q c.args.vhi = front c.loop-q.invariant.1.tape c.loop-q-test.true in
+    let e = c.view-w.ensures in
     let t = turn in
     let l = c.loop-q-test.true in
     let y = valid-first c.loop-q.invariant.1 l in

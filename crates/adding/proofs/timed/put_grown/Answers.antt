@@ -21,7 +21,6 @@ put_changed-requires c =
     let change : Changes (slice c.args.a c.args.e c.args.src.now) (adding (c.args.n + 1)) (c.args.n + 1) c.grown-change.result.to c.grown-change.result.tail = rw (part_slice c.args.a c.args.e c.args.src.now c.requires.0) at c.grown-change.ensures in (
       omega (arith, change.inside, length-slice c.args.a c.args.e c.args.src.now c.requires.1),
       change-short (slice c.args.a c.args.e c.args.src.now) c.requires.3.s c.requires.3.is change,
-      change.known,
       omega arith,
       omega arith,
       omega arith,

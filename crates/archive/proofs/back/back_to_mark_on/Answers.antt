@@ -1,11 +1,17 @@
 -- `back_to_mark_on` meets its contract.
-use native.Mathlib.Omega.{arith}
-use lib.ListN.{length}
+use Rattle.std.proofs.Common.{arith, length}
+use Rattle.std.proofs.lemmas.Result.{err_from_is_err_and}
+use Rattle.archive.specs.FirstSteps.{roomy}
 use Rattle.archive.specs.MarkCalls.{steps-1, steps_all}
 use Rattle.archive.proofs.back.back_to_mark_on.Goals as goal
 
-pub returns-then-work-lt16384 : goal.returns-then-work-lt16384
-returns-then-work-lt16384 c = steps-1 _ _ _ _ c.if-work-lt16384.true c.refuse.ensures
+pub returns-in_err-room : goal.returns-in_err-room
+returns-in_err-room c =
+    let p = err_from_is_err_and c.from_residual.result c.from_residual.ensures.1 in
+    rw (p.1, p.2) (steps-1 _ _ _ _ c.in_err-room.ensures)
+
+pub back_to_mark_in-b-requires : goal.back_to_mark_in-b-requires
+back_to_mark_in-b-requires c = (omega (arith, roomy _ c.in_ok-room.ensures), c.requires)
 
 pub returns : goal.returns
-returns c = steps_all _ _ _ _ c.if-work-lt16384.false c.back_to_mark_in-b.ensures.0 c.back_to_mark_in-b.ensures.1 (length c.back_to_mark_in-b.new.work) (omega (arith, c.back_to_mark_in-b.auto)) c.clear.ensures
+returns c = steps_all _ _ _ _ c.in_ok-room.ensures c.back_to_mark_in-b.ensures.0 c.back_to_mark_in-b.ensures.1 (length c.back_to_mark_in-b.new.work) (omega (arith, c.back_to_mark_in-b.auto)) c.clear.ensures

@@ -8,8 +8,8 @@ use Rattle.xml.specs.OverLaws.{wrote-over}
 use Rattle.archive.specs.BackCall.{earlier_text, back-asks, back-short}
 use Rattle.archive.proofs.back.lacks_room.Goals as goal
 
-pub returns-then-src-size : goal.returns-then-src-size
-returns-then-src-size c = λ f h. let a = c.args in sym (le-ltb a.size (length (earlier_text a.i f)) (omega (arith, back-short c.requires f h, c.if-src-size.true)))
+pub returns-then-doc-size : goal.returns-then-doc-size
+returns-then-doc-size c = λ f h. let a = c.args in sym (le-ltb a.size (length (earlier_text a.i f)) (omega (arith, back-short c.requires f h, c.if-doc-size.true)))
 
 pub back-count-requires : goal.back-count-requires
 back-count-requires c = back-asks c.requires

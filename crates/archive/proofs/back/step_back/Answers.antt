@@ -1,9 +1,22 @@
 -- `archive::back::step_back` meets its contract: the step is made with the table by value, and later marks are dropped from the lent one.
-use Rattle.archive.specs.MarkCalls.{back-ends}
+use Rattle.std.proofs.lemmas.Result.{err_from_is_err_and}
+use Rattle.std.proofs.Common.{refl, Err}
+use Rattle.marks.specs.AfterLaws.{lent_is, came-meant}
+use Rattle.archive.specs.MarkCalls.{back-refused, back-done, back-dropped}
 use Rattle.archive.proofs.back.step_back.Goals as goal
+
+pub returns-in_err-b : goal.returns-in_err-b
+returns-in_err-b c =
+    let a = c.args in
+    let p = err_from_is_err_and c.from_residual.result c.from_residual.ensures.1 in
+    rw (p.1, p.2) (back-refused a.keys.now a.archive.now a.marks.now _ (λ n. lent_is n a.marks.now) a.out.now a.work.now a.i (rw c.gather-t.ensures at c.in_err-b.ensures))
+
+pub returns-in_err-drop_later : goal.returns-in_err-drop_later
+returns-in_err-drop_later c =
+    let a = c.args in
+    back-dropped a.keys.now a.archive.now a.marks.now _ (λ n. lent_is n a.marks.now) a.out.now a.work.now a.i (rw c.gather-t.ensures at c.in_ok-b.ensures) (came-meant (Err c.in_err-drop_later.field-0.0) (c.in_err-drop_later.ensures.dropped _ refl).0)
 
 pub returns : goal.returns
 returns c =
     let a = c.args in
-    let b = c.back_on-b in
-    back-ends a.keys.now a.archive.now a.marks.now a.i a.out.now a.work.now b.result b.new.out b.new.work (rw c.gather-t.ensures at b.ensures) c.drop_later.new.marks c.drop_later.ensures.1
+    back-done a.keys.now a.archive.now a.marks.now _ (λ n. lent_is n a.marks.now) a.out.now a.work.now a.i (rw c.gather-t.ensures at c.in_ok-b.ensures) (c.drop_later.ensures.dropped _ refl).1

@@ -1,18 +1,30 @@
--- `check_keys` meets its contract: a law for each answer (CheckLaws).
-use Rattle.archive.specs.CheckLaws.{check-0, check-1, check-2, check-3, check-4, load-table, load-noted, load_kept}
+-- `check_keys` meets its contract: a law for each answer (Giving).
+use Rattle.std.proofs.Common.{[], refl, length, rules}
+use Rattle.std.proofs.lemmas.Result.{err_from_is_err_and}
+use Rattle.archive.specs.FirstSteps.{short}
+use Rattle.archive.specs.Giving.{ends-1, ends, step_ok, too_long, not-long, keys-back}
+use Rattle.archive.specs.CheckLaws.{check-from, checked, nothing-given}
 use Rattle.archive.proofs.check_keys.check_keys.Goals as goal
 
-pub returns-then-work-lt16384 : goal.returns-then-work-lt16384
-returns-then-work-lt16384 c = check-1 c.args.keys.now c.args.work.now c.if-work-lt16384.true
+pub returns-in_err-room : goal.returns-in_err-room
+returns-in_err-room c =
+    let p = err_from_is_err_and c.from_residual.result c.from_residual.ensures.1 in
+    rw (p.1, p.2) (checked _ _ (ends-1 _ _ [] c.args.work.now (check-from _ _) c.in_err-room.ensures))
 
-pub returns-then-keys-gt4096 : goal.returns-then-keys-gt4096
-returns-then-keys-gt4096 c = check-2 c.args.keys.now c.args.work.now c.clear.ensures c.if-work-lt16384.false c.if-keys-gt4096.true
+pub returns-in_err-at_most : goal.returns-in_err-at_most
+returns-in_err-at_most c =
+    let p = err_from_is_err_and c.from_residual-in_err-at_most.result c.from_residual-in_err-at_most.ensures.1 in
+    rw (p.1, p.2) (checked _ _ (ends _ _ [] c.args.work.now (check-from _ _) c.in_ok-room.ensures (too_long _ 4096 _ [] c.in_err-at_most.ensures) (length c.args.work.now) refl c.clear.ensures))
 
-pub returns-in-Table : goal.returns-in-Table
-returns-in-Table c = let t = load-table _ _ c.in-Table.is c.load.ensures in check-0 c.args.keys.now c.args.work.now c.clear.ensures c.if-work-lt16384.false c.if-keys-gt4096.false t.0 t.1.accepted
+pub load-requires : goal.load-requires
+load-requires c = (short _ _ c.in_ok-at_most.ensures, search rules)
 
-pub returns-in-Notation : goal.returns-in-Notation
-returns-in-Notation c = check-3 c.args.keys.now c.args.work.now c.clear.ensures c.if-work-lt16384.false c.if-keys-gt4096.false (load-noted _ _ c.in-Notation.is c.load.ensures)
+pub returns-in_err-load : goal.returns-in_err-load
+returns-in_err-load c =
+    let p = err_from_is_err_and c.from_residual-in_err-load.result c.from_residual-in_err-load.ensures.1 in
+    rw (p.1, p.2) (checked _ _ (ends _ _ [] c.args.work.now (check-from _ _) c.in_ok-room.ensures (not-long _ 4096 _ c.in_ok-at_most.ensures (keys-back _ _ [] c.in_err-load.ensures)) (length c.args.work.now) refl c.clear.ensures))
 
-pub returns-in-Rules : goal.returns-in-Rules
-returns-in-Rules c = check-4 c.args.keys.now c.args.work.now c.clear.ensures c.if-work-lt16384.false c.if-keys-gt4096.false (load_kept _ _ c.in-Rules.is c.load.ensures)
+pub returns : goal.returns
+returns c =
+    let t = c.in_ok-load.ensures in
+    checked _ _ (ends _ _ [] c.args.work.now (check-from _ _) c.in_ok-room.ensures (not-long _ 4096 _ c.in_ok-at_most.ensures (step_ok _ t.0 t.1.accepted nothing-given)) (length c.args.work.now) refl c.clear.ensures)

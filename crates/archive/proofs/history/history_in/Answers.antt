@@ -1,25 +1,52 @@
 -- `history_in` meets its contract: a law for each answer (Giving).
-use Rattle.archive.specs.CheckLaws.{load-table, load-noted, load_kept}
-use Rattle.archive.specs.Giving.{step_ok, too_long, not-long, keys-3, keys-4}
+use Rattle.std.proofs.Common.{rules}
+use Rattle.std.proofs.lemmas.Result.{err_from_is_err_and}
+use Rattle.archive.specs.FirstSteps.{short}
+use Rattle.archive.specs.Giving.{step_ok, too_long, not-long, keys-back, archive-back}
+use Rattle.archive.specs.HistoryCall.{some-archive}
 use Rattle.archive.proofs.history.history_in.Goals as goal
 
-pub returns-then-keys-gt4096 : goal.returns-then-keys-gt4096
-returns-then-keys-gt4096 c = too_long _ 4096 _ _ c.if-keys-gt4096.true
+pub returns-in_err-at_most : goal.returns-in_err-at_most
+returns-in_err-at_most c =
+    let p = err_from_is_err_and c.from_residual.result c.from_residual.ensures.1 in
+    rw (p.1, p.2) (too_long _ 4096 _ _ c.in_err-at_most.ensures)
 
-pub returns-then-archive-gt32768 : goal.returns-then-archive-gt32768
-returns-then-archive-gt32768 c = not-long _ 4096 _ c.if-keys-gt4096.false (too_long _ 32768 _ _ c.if-archive-gt32768.true)
+pub returns-in_err-at_most-2 : goal.returns-in_err-at_most-2
+returns-in_err-at_most-2 c =
+    let p = err_from_is_err_and c.from_residual-in_err-at_most-2.result c.from_residual-in_err-at_most-2.ensures.1 in
+    rw (p.1, p.2) (not-long _ 4096 _ c.in_ok-at_most.ensures (too_long _ 32768 _ _ c.in_err-at_most-2.ensures))
 
-pub returns-then-address-gt2560 : goal.returns-then-address-gt2560
-returns-then-address-gt2560 c = not-long _ 4096 _ c.if-keys-gt4096.false (not-long _ 32768 _ c.if-archive-gt32768.false (too_long _ 2560 _ _ c.if-address-gt2560.true))
+pub returns-in_err-at_most-3 : goal.returns-in_err-at_most-3
+returns-in_err-at_most-3 c =
+    let p = err_from_is_err_and c.from_residual-in_err-at_most-3.result c.from_residual-in_err-at_most-3.ensures.1 in
+    rw (p.1, p.2) (not-long _ 4096 _ c.in_ok-at_most.ensures (not-long _ 32768 _ c.in_ok-at_most-2.ensures (too_long _ 2560 _ _ c.in_err-at_most-3.ensures)))
 
-pub history_under-requires : goal.history_under-requires
-history_under-requires c = let t = load-table _ _ c.in-Table.is c.load.ensures in (record { keys = t.0; table = t.1 }, c.if-archive-gt32768.false, c.if-address-gt2560.false, c.requires)
+pub load-requires : goal.load-requires
+load-requires c = (short _ _ c.in_ok-at_most.ensures, search rules)
 
-pub returns-in-Table : goal.returns-in-Table
-returns-in-Table c = let t = load-table _ _ c.in-Table.is c.load.ensures in not-long _ 4096 _ c.if-keys-gt4096.false (not-long _ 32768 _ c.if-archive-gt32768.false (not-long _ 2560 _ c.if-address-gt2560.false (step_ok _ t.0 t.1.accepted (c.history_under.ensures t.0 t.1))))
+pub returns-in_err-paths : goal.returns-in_err-paths
+returns-in_err-paths c =
+    let p = err_from_is_err_and c.from_residual-in_err-paths.result c.from_residual-in_err-paths.ensures.1 in
+    rw (p.1, p.2) (not-long _ 4096 _ c.in_ok-at_most.ensures (not-long _ 32768 _ c.in_ok-at_most-2.ensures (not-long _ 2560 _ c.in_ok-at_most-3.ensures (keys-back _ _ _ c.in_err-paths.ensures))))
 
-pub returns-in-Notation : goal.returns-in-Notation
-returns-in-Notation c = not-long _ 4096 _ c.if-keys-gt4096.false (not-long _ 32768 _ c.if-archive-gt32768.false (not-long _ 2560 _ c.if-address-gt2560.false (keys-3 _ _ _ (load-noted _ _ c.in-Notation.is c.load.ensures))))
+pub open-requires : goal.open-requires
+open-requires c =
+    let t = c.in_ok-paths.ensures in
+    (record { keys = t.0; table = t.1 }, short _ _ c.in_ok-at_most-2.ensures, c.requires)
 
-pub returns-in-Rules : goal.returns-in-Rules
-returns-in-Rules c = not-long _ 4096 _ c.if-keys-gt4096.false (not-long _ 32768 _ c.if-archive-gt32768.false (not-long _ 2560 _ c.if-address-gt2560.false (keys-4 _ _ _ (load_kept _ _ c.in-Rules.is c.load.ensures))))
+pub returns-in_err-opened : goal.returns-in_err-opened
+returns-in_err-opened c =
+    let t = c.in_ok-paths.ensures in
+    let p = err_from_is_err_and c.from_residual-in_err-opened.result c.from_residual-in_err-opened.ensures.1 in
+    rw (p.1, p.2) (not-long _ 4096 _ c.in_ok-at_most.ensures (not-long _ 32768 _ c.in_ok-at_most-2.ensures (not-long _ 2560 _ c.in_ok-at_most-3.ensures (step_ok _ t.0 t.1.accepted (archive-back t.0 _ _ _ (c.in_err-opened.ensures t.0 t.1))))))
+
+pub history_on-requires : goal.history_on-requires
+history_on-requires c =
+    let t = c.in_ok-paths.ensures in
+    (some-archive (record { keys = t.0; table = t.1 }) (λ K h. c.in_ok-opened.ensures K h), short _ _ c.in_ok-at_most-3.ensures)
+
+pub returns : goal.returns
+returns c =
+    let t = c.in_ok-paths.ensures in
+    let x = c.in_ok-opened.ensures t.0 t.1 in
+    not-long _ 4096 _ c.in_ok-at_most.ensures (not-long _ 32768 _ c.in_ok-at_most-2.ensures (not-long _ 2560 _ c.in_ok-at_most-3.ensures (step_ok _ t.0 t.1.accepted (step_ok _ x.forest x.is (c.history_on.ensures t.0 x.forest t.1 x.tape)))))

@@ -19,4 +19,4 @@ returns-then-lacks_room c = let a = c.args in
 pub returns : goal.returns
 returns c = let a = c.args in
     asked-there 999 a.n (write_times (longest a.n)) a.out.now c.if-n-lt1.false c.if-n-gt999.false
-    (give-fits (write_times (longest a.n)) a.out.now c.lacks_room.ensures c.if-lacks_room.false c.put_longest-count.ensures)
+    (give-fits (write_times (longest a.n)) a.out.now c.lacks_room.ensures c.if-lacks_room.false c.put_longest.ensures)

@@ -1,23 +1,34 @@
 -- `open_in` meets its contract: a law for each answer (Opening).
-use Rattle.archive.specs.CheckLaws.{load-table, load-noted, load_kept}
-use Rattle.archive.specs.Opening.{opened-2, opened-2-archive, opened-3, opened-4, opened-as}
+use Rattle.std.proofs.Common.{rules}
+use Rattle.std.proofs.lemmas.Result.{err_from_is_err_and}
+use Rattle.archive.specs.FirstSteps.{short}
+use Rattle.archive.specs.Opening.{opened-long-keys, opened-long, opened-keys, opened-as}
 use Rattle.archive.proofs.opened.open_in.Goals as goal
 
-pub returns-then-keys-gt4096 : goal.returns-then-keys-gt4096
-returns-then-keys-gt4096 c = opened-2 _ _ _ c.if-keys-gt4096.true
+pub returns-in_err-at_most : goal.returns-in_err-at_most
+returns-in_err-at_most c =
+    let p = err_from_is_err_and c.from_residual.result c.from_residual.ensures.1 in
+    rw (p.1, p.2) (opened-long-keys _ _ c.in_err-at_most.ensures)
 
-pub returns-then-archive-gt32768 : goal.returns-then-archive-gt32768
-returns-then-archive-gt32768 c = opened-2-archive _ _ _ c.if-keys-gt4096.false c.if-archive-gt32768.true
+pub returns-in_err-at_most-2 : goal.returns-in_err-at_most-2
+returns-in_err-at_most-2 c =
+    let p = err_from_is_err_and c.from_residual-in_err-at_most-2.result c.from_residual-in_err-at_most-2.ensures.1 in
+    rw (p.1, p.2) (opened-long _ _ c.in_ok-at_most.ensures c.in_err-at_most-2.ensures)
 
-pub open_under-requires : goal.open_under-requires
-open_under-requires c = let t = load-table _ _ c.in-Table.is c.load.ensures in (record { keys = t.0; table = t.1 }, c.if-archive-gt32768.false, c.requires)
+pub load-requires : goal.load-requires
+load-requires c = (short _ _ c.in_ok-at_most.ensures, search rules)
 
-pub returns-in-Table : goal.returns-in-Table
-returns-in-Table c = let t = load-table _ _ c.in-Table.is c.load.ensures in
-    opened-as _ _ _ c.if-keys-gt4096.false c.if-archive-gt32768.false t.0 t.1.accepted (c.open_under.ensures t.0 t.1)
+pub returns-in_err-paths : goal.returns-in_err-paths
+returns-in_err-paths c =
+    let p = err_from_is_err_and c.from_residual-in_err-paths.result c.from_residual-in_err-paths.ensures.1 in
+    rw (p.1, p.2) (opened-keys _ _ c.in_ok-at_most.ensures c.in_ok-at_most-2.ensures c.in_err-paths.ensures)
 
-pub returns-in-Notation : goal.returns-in-Notation
-returns-in-Notation c = opened-3 _ _ _ c.if-keys-gt4096.false c.if-archive-gt32768.false (load-noted _ _ c.in-Notation.is c.load.ensures)
+pub open-requires : goal.open-requires
+open-requires c =
+    let t = c.in_ok-paths.ensures in
+    (record { keys = t.0; table = t.1 }, short _ _ c.in_ok-at_most-2.ensures, c.requires)
 
-pub returns-in-Rules : goal.returns-in-Rules
-returns-in-Rules c = opened-4 _ _ _ c.if-keys-gt4096.false c.if-archive-gt32768.false (load_kept _ _ c.in-Rules.is c.load.ensures)
+pub returns : goal.returns
+returns c =
+    let t = c.in_ok-paths.ensures in
+    opened-as _ _ c.in_ok-at_most.ensures c.in_ok-at_most-2.ensures _ t.0 t.1 _ c.«open».ensures

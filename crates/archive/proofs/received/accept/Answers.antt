@@ -24,8 +24,8 @@ returns-then-is_unkeyed c = sent-8 c.requires.1 c.too_large.ensures c.if-too_lar
 pub arrange-requires : goal.arrange-requires
 arrange-requires c = (arrange-fit c.requires.1 c.too_large.ensures c.if-too_large.false c.is_misplaced.ensures c.if-is_misplaced.false c.is_unkeyed.ensures c.if-is_unkeyed.false c.requires.0, c.requires.2, omega (arith, c.requires.1.few))
 
-pub returns-in-Done : goal.returns-in-Done
-returns-in-Done c = received c.requires.1 c.too_large.ensures c.if-too_large.false c.is_misplaced.ensures c.if-is_misplaced.false c.is_unkeyed.ensures c.if-is_unkeyed.false (arranged-done _ c.in-Done.is c.arrange.ensures)
+pub returns-in-Some : goal.returns-in-Some
+returns-in-Some c = received c.requires.1 c.too_large.ensures c.if-too_large.false c.is_misplaced.ensures c.if-is_misplaced.false c.is_unkeyed.ensures c.if-is_unkeyed.false (arranged-done _ c.in-Some.is c.arrange.ensures)
 
-pub returns-in-Double : goal.returns-in-Double
-returns-in-Double c = sent-9 c.requires.1 c.too_large.ensures c.if-too_large.false c.is_misplaced.ensures c.if-is_misplaced.false c.is_unkeyed.ensures c.if-is_unkeyed.false (arranged-double _ c.in-Double.is c.arrange.ensures)
+pub returns-in-None : goal.returns-in-None
+returns-in-None c = sent-9 c.requires.1 c.too_large.ensures c.if-too_large.false c.is_misplaced.ensures c.if-is_misplaced.false c.is_unkeyed.ensures c.if-is_unkeyed.false (arranged-double _ c.in-None.is c.arrange.ensures)

@@ -9,8 +9,8 @@ use Rattle.versions.specs.VersionText.{version_text}
 use Rattle.archive.specs.RetrieveLaws.{version-asks, version-short}
 use Rattle.archive.proofs.retrieve.lacks_room.Goals as goal
 
-pub returns-then-src-size : goal.returns-then-src-size
-returns-then-src-size c = λ f h. let a = c.args in sym (le-ltb a.size (length (version_text a.i f)) (omega (arith, version-short c.requires f h, c.if-src-size.true)))
+pub returns-then-doc-size : goal.returns-then-doc-size
+returns-then-doc-size c = λ f h. let a = c.args in sym (le-ltb a.size (length (version_text a.i f)) (omega (arith, version-short c.requires f h, c.if-doc-size.true)))
 
 pub write_version-count-requires : goal.write_version-count-requires
 write_version-count-requires c = version-asks c.requires

@@ -1,23 +1,43 @@
 -- `retrieve_in` meets its contract: a law for each answer (Giving).
-use Rattle.archive.specs.CheckLaws.{load-table, load-noted, load_kept}
-use Rattle.archive.specs.Giving.{step_ok, too_long, not-long, keys-3, keys-4}
+use Rattle.std.proofs.Common.{rules}
+use Rattle.std.proofs.lemmas.Result.{err_from_is_err_and}
+use Rattle.versions.specs.VersionText.{version_text}
+use Rattle.archive.specs.FirstSteps.{short}
+use Rattle.archive.specs.Giving.{step_ok, too_long, not-long, keys-back, archive-back}
+use Rattle.archive.specs.Asking.{asked-given}
 use Rattle.archive.proofs.retrieve.retrieve_in.Goals as goal
 
-pub returns-then-keys-gt4096 : goal.returns-then-keys-gt4096
-returns-then-keys-gt4096 c = too_long _ 4096 _ _ c.if-keys-gt4096.true
+pub returns-in_err-at_most : goal.returns-in_err-at_most
+returns-in_err-at_most c =
+    let p = err_from_is_err_and c.from_residual.result c.from_residual.ensures.1 in
+    rw (p.1, p.2) (too_long _ 4096 _ _ c.in_err-at_most.ensures)
 
-pub returns-then-archive-gt32768 : goal.returns-then-archive-gt32768
-returns-then-archive-gt32768 c = not-long _ 4096 _ c.if-keys-gt4096.false (too_long _ 32768 _ _ c.if-archive-gt32768.true)
+pub returns-in_err-at_most-2 : goal.returns-in_err-at_most-2
+returns-in_err-at_most-2 c =
+    let p = err_from_is_err_and c.from_residual-in_err-at_most-2.result c.from_residual-in_err-at_most-2.ensures.1 in
+    rw (p.1, p.2) (not-long _ 4096 _ c.in_ok-at_most.ensures (too_long _ 32768 _ _ c.in_err-at_most-2.ensures))
 
-pub retrieve_under-requires : goal.retrieve_under-requires
-retrieve_under-requires c = let t = load-table _ _ c.in-Table.is c.load.ensures in (record { keys = t.0; table = t.1 }, c.if-archive-gt32768.false, c.requires)
+pub load-requires : goal.load-requires
+load-requires c = (short _ _ c.in_ok-at_most.ensures, search rules)
 
-pub returns-in-Table : goal.returns-in-Table
-returns-in-Table c = let t = load-table _ _ c.in-Table.is c.load.ensures in
-    not-long _ 4096 _ c.if-keys-gt4096.false (not-long _ 32768 _ c.if-archive-gt32768.false (step_ok _ t.0 t.1.accepted (c.retrieve_under.ensures t.0 t.1)))
+pub returns-in_err-paths : goal.returns-in_err-paths
+returns-in_err-paths c =
+    let p = err_from_is_err_and c.from_residual-in_err-paths.result c.from_residual-in_err-paths.ensures.1 in
+    rw (p.1, p.2) (not-long _ 4096 _ c.in_ok-at_most.ensures (not-long _ 32768 _ c.in_ok-at_most-2.ensures (keys-back _ _ _ c.in_err-paths.ensures)))
 
-pub returns-in-Notation : goal.returns-in-Notation
-returns-in-Notation c = not-long _ 4096 _ c.if-keys-gt4096.false (not-long _ 32768 _ c.if-archive-gt32768.false (keys-3 _ _ _ (load-noted _ _ c.in-Notation.is c.load.ensures)))
+pub open-requires : goal.open-requires
+open-requires c =
+    let t = c.in_ok-paths.ensures in
+    (record { keys = t.0; table = t.1 }, short _ _ c.in_ok-at_most-2.ensures, c.requires)
 
-pub returns-in-Rules : goal.returns-in-Rules
-returns-in-Rules c = not-long _ 4096 _ c.if-keys-gt4096.false (not-long _ 32768 _ c.if-archive-gt32768.false (keys-4 _ _ _ (load_kept _ _ c.in-Rules.is c.load.ensures)))
+pub returns-in_err-opened : goal.returns-in_err-opened
+returns-in_err-opened c =
+    let t = c.in_ok-paths.ensures in
+    let p = err_from_is_err_and c.from_residual-in_err-opened.result c.from_residual-in_err-opened.ensures.1 in
+    rw (p.1, p.2) (not-long _ 4096 _ c.in_ok-at_most.ensures (not-long _ 32768 _ c.in_ok-at_most-2.ensures (step_ok _ t.0 t.1.accepted (archive-back t.0 _ _ _ (c.in_err-opened.ensures t.0 t.1)))))
+
+pub returns : goal.returns
+returns c =
+    let t = c.in_ok-paths.ensures in
+    let i = c.args.i in
+    not-long _ 4096 _ c.in_ok-at_most.ensures (not-long _ 32768 _ c.in_ok-at_most-2.ensures (step_ok _ t.0 t.1.accepted (asked-given (version_text i) i (c.in_ok-opened.ensures t.0 t.1) c.give_version.ensures)))

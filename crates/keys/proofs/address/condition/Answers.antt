@@ -17,13 +17,14 @@ overflow_add-q c = let k = keyed-cell c.requires.0 in omega arith
 pub overflow_add-q-2 : goal.overflow_add-q-2
 overflow_add-q-2 c = let k = keyed-cell c.requires.0 in omega arith
 
-pub key_name-key-requires : goal.key_name-key-requires
-key_name-key-requires c = (keyed-cell c.requires.0).1
+pub key_name-requires : goal.key_name-requires
+key_name-requires c = (keyed-cell c.requires.0).1
+
+pub part-key-requires : goal.part-key-requires
+part-key-requires c = part-within c.args.keys.now.table.now (c.args.q + 1 + c.args.j) (length c.args.keys.now.text.now) c.key_name.ensures (keyed-within c.requires.0)
 
 pub skip-b-requires : goal.skip-b-requires
-skip-b-requires c = let a = c.args in
-    let k = part-within a.table.now (a.q + 1 + a.j) (length a.text.now) c.key_name-key.ensures (keyed-within c.requires.0) in
-    (omega arith, c.open_at-a.ensures.within, k.0, k.1)
+skip-b-requires c = (omega arith, c.open_at-a.ensures.within)
 
 pub returns : goal.returns
 unfolding bytes
@@ -33,5 +34,5 @@ returns c = λ K p t e.
     condition-by (opener a.j) (get_or (key_names_at K p) a.j []) s a.at
     c.open_at-a.result c.skip-b.result c.skip-v.result c.value_at.result (omega arith)
     c.open_at-a.ensures
-    (skipped-key a.table.now (a.q + 1 + a.j) a.text.now s c.open_at-a.result c.skip-b.result c.key_name-key.ensures
-    (keyed-name c.requires.0 K p t e) c.skip-b.ensures) c.skip-v.ensures c.value_at.ensures
+    (skipped-key c.args.keys.now.table.now (a.q + 1 + a.j) c.args.keys.now.text.now s c.open_at-a.result c.skip-b.result c.key_name.ensures
+    (keyed-name c.requires.0 K p t e) (rw c.part-key.ensures at c.skip-b.ensures)) c.skip-v.ensures c.value_at.ensures

@@ -4,7 +4,7 @@ use mathlib.Core.Path.{refl}
 use mathlib.Core.List.{map}
 use borrow.Author.Rules.{rules}
 use Rattle.keys.specs.Version.{name_in}
-use Rattle.keys.specs.AddressLoop.{parsing-starts, parsing-more, parsing-full, parsing-wrong, parsing-done}
+use Rattle.keys.specs.AddressLoop.{parsing-starts, parsing-more, parsing-full, parsing-wrong, parsing-none, parsing-done}
 use Rattle.keys.proofs.address.parse_address.Goals as goal
 
 pub loop-at-init : goal.loop-at-init
@@ -14,21 +14,21 @@ pub returns-then-count-eq8 : goal.returns-then-count-eq8
 returns-then-count-eq8 c = let a = c.args in
     let s = a.s.now in
     let o = c.loop-at in
-    λ K t. parsing-full K s o.names o.places o.found o.count o.place o.at (o.invariant.4 K t) a.text.now t.accepted c.no_steps.result _ c.no_steps.ensures (omega arith) c.if-count-eq8.true
+    λ K t. parsing-full K s o.names o.places o.found o.count o.place o.at (o.invariant.4 K t) c.args.keys.now.text.now t.accepted (omega arith) c.if-count-eq8.true
 
-pub read_step-step-requires : goal.read_step-step-requires
-read_step-step-requires c = let o = c.loop-at in
+pub read_step-requires : goal.read_step-requires
+read_step-requires c = let o = c.loop-at in
     let h = c.requires.0 in
     let g = o.invariant.4 h.key_list h.table in
     (record { key_list = h.key_list; path = map name_in g.done; table = h.table; place_is = g.place_is }, omega arith, omega arith)
 
-pub returns-then-step-eq0 : goal.returns-then-step-eq0
-returns-then-step-eq0 c = let a = c.args in
+pub returns-in_default : goal.returns-in_default
+returns-in_default c = let a = c.args in
     let s = a.s.now in
     let o = c.loop-at in
     λ K t. let g = o.invariant.4 K t in
-    parsing-wrong K s o.names o.places o.found o.count o.place o.at (o.invariant.4 K t) a.text.now t.accepted c.no_steps-then-step-eq0.result _ c.no_steps-then-step-eq0.ensures (omega arith)
-    (c.read_step-step.ensures K (map name_in g.done) t g.place_is) c.if-step-eq0.true
+    parsing-wrong K s o.names o.places o.found o.count o.place o.at (o.invariant.4 K t) c.args.keys.now.text.now t.accepted (omega arith)
+    (c.read_step.ensures K (map name_in g.done) t g.place_is) c.in_default.is
 
 pub offset_bounds-found-count : goal.offset_bounds-found-count
 offset_bounds-found-count c = omega arith
@@ -57,19 +57,24 @@ loop-at-smaller c = omega arith
 pub loop-at-preserved : goal.loop-at-preserved
 loop-at-preserved c = let a = c.args in
     let s = a.s.now in
-    let o = c.loop-at in
-    let y = c.if-step-eq0.false in (
+    let o = c.loop-at in (
       search rules,
       search rules,
       search rules,
       omega arith,
       λ K t. let g = o.invariant.4 K t in
-          parsing-more K s o.names o.places o.found o.count o.place o.at (o.invariant.4 K t) c.read_step-step.result o.invariant.0 o.invariant.1 o.invariant.2 (omega arith)
-          (c.read_step-step.ensures K (map name_in g.done) t g.place_is) (omega arith),
+          parsing-more K s o.names o.places o.found o.count o.place o.at (o.invariant.4 K t) c.in-Some.step o.invariant.0 o.invariant.1 o.invariant.2 (omega arith)
+          (c.read_step.ensures K (map name_in g.done) t g.place_is) c.in-Some.is,
     )
 
 pub returns : goal.returns
 returns c = let a = c.args in
     let s = a.s.now in
     let o = c.loop-at in
-    λ K t. parsing-done K s o.names o.places o.found o.count o.place o.at (o.invariant.4 K t) a.text.now t.accepted (omega arith)
+    λ K t. parsing-done K s o.names o.places o.found o.count o.place o.at (o.invariant.4 K t) c.args.keys.now.text.now t.accepted (omega arith) c.if-count-eq0.false
+
+pub returns-then-count-eq0 : goal.returns-then-count-eq0
+returns-then-count-eq0 c = let a = c.args in
+    let s = a.s.now in
+    let o = c.loop-at in
+    λ K t. parsing-none K s o.names o.places o.found o.count o.place o.at (o.invariant.4 K t) c.args.keys.now.text.now t.accepted (omega arith) c.if-count-eq0.true

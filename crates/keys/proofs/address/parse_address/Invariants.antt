@@ -9,7 +9,7 @@ use Rattle.keys.proofs.address.parse_address.Given as goal
 
 abbrev pub invariant-loop-at : goal.invariant-loop-at
 invariant-loop-at l = (length l.names ≡ 8) × (length l.places ≡ 8) × (length l.found ≡ 8) × (l.count ≤ 8)
-    × ((K : KeyList) → Table l.text l.table l.n K → Parsing K l.s l.names l.places l.found l.count l.place l.at)
+    × ((K : KeyList) → Table l.keys.text.now l.keys.table.now l.keys.paths K → Parsing K l.s l.names l.places l.found l.count l.place l.at)
 
 abbrev pub decreases-loop-at : goal.decreases-loop-at
 decreases-loop-at l = 8 - l.count

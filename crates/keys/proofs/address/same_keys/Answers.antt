@@ -1,4 +1,5 @@
 -- `same_keys` meets its contract: the values from key j on are the same where all are.
+use Rattle.std.proofs.lemmas.Slice.{between_is}
 use Prim.Native.Nat.{◌+◌, ◌≤◌, ◌<◌}
 use native.Mathlib.Omega.{arith}
 use mathlib.Core.Path.{◌≡◌, refl, sym, ◌∙◌}
@@ -18,105 +19,101 @@ pub key_count-count-requires : goal.key_count-count-requires
 key_count-count-requires c = c.requires.keyed.tabled.held
 
 pub loop-j-init : goal.loop-j-init
-loop-j-init c = (omega arith, λ K p t e f h. refl)
+loop-j-init c = λ K p t e f h. refl
 
 pub overflow_add-own : goal.overflow_add-own
 overflow_add-own c =
-    let own_key : c.loop-j.j < length (key_names_at c.requires.keyed.key_list c.requires.keyed.path) = let h = c.requires.keyed in omega (arith, c.key_count-count.ensures c.args.text.now h.key_list h.path h.tabled h.place_is, c.loop-j-test.true) in
-    let room : c.args.own + 1 + c.loop-j.j < c.args.n = let h = c.requires.keyed in key-room h.tabled h.path c.args.own h.place_is c.loop-j.j (own_key) in
+    let own_key : c.loop-j.j < length (key_names_at c.requires.keyed.key_list c.requires.keyed.path) = let h = c.requires.keyed in omega (arith, c.key_count-count.ensures h.key_list h.path h.tabled h.place_is, c.loop-j-test.true) in
+    let room : c.args.own + 1 + c.loop-j.j < c.args.keys.now.paths = let h = c.requires.keyed in key-room h.tabled h.path c.args.own h.place_is c.loop-j.j (own_key) in
     omega (arith, room, c.requires.keyed.tabled.few)
 
 pub overflow_add-own-in-loop-j : goal.overflow_add-own-in-loop-j
 overflow_add-own-in-loop-j c =
-    let own_key : c.loop-j.j < length (key_names_at c.requires.keyed.key_list c.requires.keyed.path) = let h = c.requires.keyed in omega (arith, c.key_count-count.ensures c.args.text.now h.key_list h.path h.tabled h.place_is, c.loop-j-test.true) in
-    let room : c.args.own + 1 + c.loop-j.j < c.args.n = let h = c.requires.keyed in key-room h.tabled h.path c.args.own h.place_is c.loop-j.j (own_key) in
+    let own_key : c.loop-j.j < length (key_names_at c.requires.keyed.key_list c.requires.keyed.path) = let h = c.requires.keyed in omega (arith, c.key_count-count.ensures h.key_list h.path h.tabled h.place_is, c.loop-j-test.true) in
+    let room : c.args.own + 1 + c.loop-j.j < c.args.keys.now.paths = let h = c.requires.keyed in key-room h.tabled h.path c.args.own h.place_is c.loop-j.j (own_key) in
     omega (arith, room, c.requires.keyed.tabled.few)
 
-pub key_name-key-requires : goal.key_name-key-requires
-key_name-key-requires c =
-    let own_key : c.loop-j.j < length (key_names_at c.requires.keyed.key_list c.requires.keyed.path) = let h = c.requires.keyed in omega (arith, c.key_count-count.ensures c.args.text.now h.key_list h.path h.tabled h.place_is, c.loop-j-test.true) in
-    let room : c.args.own + 1 + c.loop-j.j < c.args.n = let h = c.requires.keyed in key-room h.tabled h.path c.args.own h.place_is c.loop-j.j (own_key) in
+pub key_name-requires : goal.key_name-requires
+key_name-requires c =
+    let own_key : c.loop-j.j < length (key_names_at c.requires.keyed.key_list c.requires.keyed.path) = let h = c.requires.keyed in omega (arith, c.key_count-count.ensures h.key_list h.path h.tabled h.place_is, c.loop-j-test.true) in
+    let room : c.args.own + 1 + c.loop-j.j < c.args.keys.now.paths = let h = c.requires.keyed in key-room h.tabled h.path c.args.own h.place_is c.loop-j.j (own_key) in
     omega (arith, room, c.requires.keyed.tabled.held)
 
-pub find_key-x-requires : goal.find_key-x-requires
-find_key-x-requires c =
-    let own_key : c.loop-j.j < length (key_names_at c.requires.keyed.key_list c.requires.keyed.path) = let h = c.requires.keyed in omega (arith, c.key_count-count.ensures c.args.text.now h.key_list h.path h.tabled h.place_is, c.loop-j-test.true) in
+pub part-key-requires : goal.part-key-requires
+part-key-requires c =
+    let own_key : c.loop-j.j < length (key_names_at c.requires.keyed.key_list c.requires.keyed.path) = let h = c.requires.keyed in omega (arith, c.key_count-count.ensures h.key_list h.path h.tabled h.place_is, c.loop-j-test.true) in
     let h = c.requires.keyed in
-    rw c.key_name-key.ensures (omega arith, key-within h.tabled h.path c.args.own h.place_is c.loop-j.j own_key, record { forest = h.kids; tape = h.tape })
+    rw c.key_name.ensures (omega arith, key-within h.tabled h.path c.args.own h.place_is c.loop-j.j own_key)
+
+pub find_key-x-requires : goal.find_key-x-requires
+find_key-x-requires c = record { forest = c.requires.keyed.kids; tape = c.requires.keyed.tape }
 
 pub overflow_add-x : goal.overflow_add-x
 overflow_add-x c =
-    let own_key : c.loop-j.j < length (key_names_at c.requires.keyed.key_list c.requires.keyed.path) = let h = c.requires.keyed in omega (arith, c.key_count-count.ensures c.args.text.now h.key_list h.path h.tabled h.place_is, c.loop-j-test.true) in
-    let value : (f : Forest) → Tape c.args.src.now c.args.tape.now c.args.lo c.args.hi f → Node c.args.src.now c.args.tape.now (c.find_key-x.result + 1) 0 (value_in (called (key_bytes c.args.text.now c.args.table.now (c.args.own + 1 + c.loop-j.j)) f)) = value-node c.loop-j.j c.requires.keyed (own_key) c.find_key-x.result (rw c.key_name-key.ensures at c.find_key-x.ensures) in
+    let own_key : c.loop-j.j < length (key_names_at c.requires.keyed.key_list c.requires.keyed.path) = let h = c.requires.keyed in omega (arith, c.key_count-count.ensures h.key_list h.path h.tabled h.place_is, c.loop-j-test.true) in
+    let value : (f : Forest) → Tape c.args.doc.now.src.now c.args.doc.now.tape.now c.args.lo c.args.hi f → Node c.args.doc.now.src.now c.args.doc.now.tape.now (c.find_key-x.result + 1) 0 (value_in (called (key_bytes c.args.keys.now.text.now c.args.keys.now.table.now (c.args.own + 1 + c.loop-j.j)) f)) = value-node c.loop-j.j c.requires.keyed (own_key) c.find_key-x.result (rw (c.part-key.ensures, c.key_name.ensures) at c.find_key-x.ensures) in
     let h = c.requires.keyed in
     omega (arith, (value h.kids h.tape).held)
 
-pub view_at-v-requires : goal.view_at-v-requires
-view_at-v-requires c =
-    let own_key : c.loop-j.j < length (key_names_at c.requires.keyed.key_list c.requires.keyed.path) = let h = c.requires.keyed in omega (arith, c.key_count-count.ensures c.args.text.now h.key_list h.path h.tabled h.place_is, c.loop-j-test.true) in
-    let value : (f : Forest) → Tape c.args.src.now c.args.tape.now c.args.lo c.args.hi f → Node c.args.src.now c.args.tape.now (c.find_key-x.result + 1) 0 (value_in (called (key_bytes c.args.text.now c.args.table.now (c.args.own + 1 + c.loop-j.j)) f)) = value-node c.loop-j.j c.requires.keyed (own_key) c.find_key-x.result (rw c.key_name-key.ensures at c.find_key-x.ensures) in
+pub view-v-requires : goal.view-v-requires
+view-v-requires c =
+    let own_key : c.loop-j.j < length (key_names_at c.requires.keyed.key_list c.requires.keyed.path) = let h = c.requires.keyed in omega (arith, c.key_count-count.ensures h.key_list h.path h.tabled h.place_is, c.loop-j-test.true) in
+    let value : (f : Forest) → Tape c.args.doc.now.src.now c.args.doc.now.tape.now c.args.lo c.args.hi f → Node c.args.doc.now.src.now c.args.doc.now.tape.now (c.find_key-x.result + 1) 0 (value_in (called (key_bytes c.args.keys.now.text.now c.args.keys.now.table.now (c.args.own + 1 + c.loop-j.j)) f)) = value-node c.loop-j.j c.requires.keyed (own_key) c.find_key-x.result (rw (c.part-key.ensures, c.key_name.ensures) at c.find_key-x.ensures) in
     let h = c.requires.keyed in
     (value h.kids h.tape).held
 
-pub offset_bounds-keys-j : goal.offset_bounds-keys-j
-offset_bounds-keys-j c =
-    let few : c.key_count-count.result ≤ 4 = let h = c.requires.keyed in omega (arith, few-keys c.args.text.now h.key_list h.tabled.accepted h.path, c.key_count-count.ensures c.args.text.now h.key_list h.path h.tabled h.place_is) in
+pub offset_bounds-values-j : goal.offset_bounds-values-j
+offset_bounds-values-j c =
+    let few : c.key_count-count.result ≤ 4 = let h = c.requires.keyed in omega (arith, few-keys c.args.keys.now.text.now h.key_list h.tabled.accepted h.path, c.key_count-count.ensures h.key_list h.path h.tabled h.place_is) in
     omega (arith, few)
 
-pub bounds-keys-j : goal.bounds-keys-j
-bounds-keys-j c =
-    let few : c.key_count-count.result ≤ 4 = let h = c.requires.keyed in omega (arith, few-keys c.args.text.now h.key_list h.tabled.accepted h.path, c.key_count-count.ensures c.args.text.now h.key_list h.path h.tabled h.place_is) in
+pub bounds-values-j : goal.bounds-values-j
+bounds-values-j c =
+    let few : c.key_count-count.result ≤ 4 = let h = c.requires.keyed in omega (arith, few-keys c.args.keys.now.text.now h.key_list h.tabled.accepted h.path, c.key_count-count.ensures h.key_list h.path h.tabled h.place_is) in
     omega (arith, few)
 
 pub overflow_add-k : goal.overflow_add-k
 overflow_add-k c =
-    let own_key : c.loop-j.j < length (key_names_at c.requires.keyed.key_list c.requires.keyed.path) = let h = c.requires.keyed in omega (arith, c.key_count-count.ensures c.args.text.now h.key_list h.path h.tabled h.place_is, c.loop-j-test.true) in
+    let own_key : c.loop-j.j < length (key_names_at c.requires.keyed.key_list c.requires.keyed.path) = let h = c.requires.keyed in omega (arith, c.key_count-count.ensures h.key_list h.path h.tabled h.place_is, c.loop-j-test.true) in
     let i = c.requires.inside c.loop-j.j own_key in
     omega arith
 
-pub same_bytes-requires : goal.same_bytes-requires
-same_bytes-requires c =
-    let own_key : c.loop-j.j < length (key_names_at c.requires.keyed.key_list c.requires.keyed.path) = let h = c.requires.keyed in omega (arith, c.key_count-count.ensures c.args.text.now h.key_list h.path h.tabled h.place_is, c.loop-j-test.true) in
-    let value : (f : Forest) → Tape c.args.src.now c.args.tape.now c.args.lo c.args.hi f → Node c.args.src.now c.args.tape.now (c.find_key-x.result + 1) 0 (value_in (called (key_bytes c.args.text.now c.args.table.now (c.args.own + 1 + c.loop-j.j)) f)) = value-node c.loop-j.j c.requires.keyed (own_key) c.find_key-x.result (rw c.key_name-key.ensures at c.find_key-x.ensures) in
-    let i = c.requires.inside c.loop-j.j own_key in
+pub part-requires : goal.part-requires
+part-requires c =
+    let own_key : c.loop-j.j < length (key_names_at c.requires.keyed.key_list c.requires.keyed.path) = let h = c.requires.keyed in omega (arith, c.key_count-count.ensures h.key_list h.path h.tabled h.place_is, c.loop-j-test.true) in
+    let value : (f : Forest) → Tape c.args.doc.now.src.now c.args.doc.now.tape.now c.args.lo c.args.hi f → Node c.args.doc.now.src.now c.args.doc.now.tape.now (c.find_key-x.result + 1) 0 (value_in (called (key_bytes c.args.keys.now.text.now c.args.keys.now.table.now (c.args.own + 1 + c.loop-j.j)) f)) = value-node c.loop-j.j c.requires.keyed (own_key) c.find_key-x.result (rw (c.part-key.ensures, c.key_name.ensures) at c.find_key-x.ensures) in
     let h = c.requires.keyed in
     let w = (value h.kids h.tape).within in
-    rw c.view_at-v.ensures (record { le₁ = omega arith; in₁ = i; le₂ = omega arith; in₂ = w })
+    rw c.view-v.ensures (omega arith, w)
 
 pub returns-then-not-same_bytes : goal.returns-then-not-same_bytes
 returns-then-not-same_bytes c =
-    let few : c.key_count-count.result ≤ 4 = let h = c.requires.keyed in omega (arith, few-keys c.args.text.now h.key_list h.tabled.accepted h.path, c.key_count-count.ensures c.args.text.now h.key_list h.path h.tabled h.place_is) in
-    let long : OfPlace c.args.text.now c.args.table.now c.args.n c.args.own (λ K p. length (key_names_at K p) ≤ length c.args.keys) = λ K p t e. let l : length c.args.keys ≡ 4 = search rules in omega (arith, few, c.key_count-count.ensures c.args.text.now K p t e) in
-    let own_key : c.loop-j.j < length (key_names_at c.requires.keyed.key_list c.requires.keyed.path) = let h = c.requires.keyed in omega (arith, c.key_count-count.ensures c.args.text.now h.key_list h.path h.tabled h.place_is, c.loop-j-test.true) in
-    let value : (f : Forest) → Tape c.args.src.now c.args.tape.now c.args.lo c.args.hi f → Node c.args.src.now c.args.tape.now (c.find_key-x.result + 1) 0 (value_in (called (key_bytes c.args.text.now c.args.table.now (c.args.own + 1 + c.loop-j.j)) f)) = value-node c.loop-j.j c.requires.keyed (own_key) c.find_key-x.result (rw c.key_name-key.ensures at c.find_key-x.ensures) in
+    let few : c.key_count-count.result ≤ 4 = let h = c.requires.keyed in omega (arith, few-keys c.args.keys.now.text.now h.key_list h.tabled.accepted h.path, c.key_count-count.ensures h.key_list h.path h.tabled h.place_is) in
+    let long : OfPlace c.args.keys.now.text.now c.args.keys.now.table.now c.args.keys.now.paths c.args.own (λ K p. length (key_names_at K p) ≤ length c.args.values) = λ K p t e. let l : length c.args.values ≡ 4 = search rules in omega (arith, few, c.key_count-count.ensures K p t e) in
+    let own_key : c.loop-j.j < length (key_names_at c.requires.keyed.key_list c.requires.keyed.path) = let h = c.requires.keyed in omega (arith, c.key_count-count.ensures h.key_list h.path h.tabled h.place_is, c.loop-j-test.true) in
+    let value : (f : Forest) → Tape c.args.doc.now.src.now c.args.doc.now.tape.now c.args.lo c.args.hi f → Node c.args.doc.now.src.now c.args.doc.now.tape.now (c.find_key-x.result + 1) 0 (value_in (called (key_bytes c.args.keys.now.text.now c.args.keys.now.table.now (c.args.own + 1 + c.loop-j.j)) f)) = value-node c.loop-j.j c.requires.keyed (own_key) c.find_key-x.result (rw (c.part-key.ensures, c.key_name.ensures) at c.find_key-x.ensures) in
     λ K p t e f h.
     let a = c.args in
     let o = c.loop-j in
-    let l : o.j < length (key_names_at K p) = omega (arith, c.key_count-count.ensures a.text.now K p t e, c.loop-j-test.true) in
-    let q = rw c.view_at-v.ensures at c.same_bytes.ensures in
-    sym (o.invariant.1 K p t e f h ∙ keys-differ a.s.now a.keys (key_names_at K p) f o.j l (long K p t e) (key-name-is t p a.own e o.j l) (value f h).bytes-are (sym q ∙ c.if-not-same_bytes.true))
-
-pub overflow_add-j : goal.overflow_add-j
-overflow_add-j c = omega arith
-
-pub loop-j-smaller : goal.loop-j-smaller
-loop-j-smaller c = omega arith
+    let l : o.j < length (key_names_at K p) = omega (arith, c.key_count-count.ensures K p t e, c.loop-j-test.true) in
+    let q = rw (c.part.ensures, c.view-v.ensures) at (simp between_is at c.same_bytes.ensures) in
+    sym (o.invariant K p t e f h ∙ keys-differ a.s.now a.values (key_names_at K p) f o.j l (long K p t e) (key-name-is t p a.own e o.j l) (value f h).bytes-are (sym q ∙ c.if-not-same_bytes.true))
 
 pub loop-j-preserved : goal.loop-j-preserved
 loop-j-preserved c =
-    let few : c.key_count-count.result ≤ 4 = let h = c.requires.keyed in omega (arith, few-keys c.args.text.now h.key_list h.tabled.accepted h.path, c.key_count-count.ensures c.args.text.now h.key_list h.path h.tabled h.place_is) in
-    let long : OfPlace c.args.text.now c.args.table.now c.args.n c.args.own (λ K p. length (key_names_at K p) ≤ length c.args.keys) = λ K p t e. let l : length c.args.keys ≡ 4 = search rules in omega (arith, few, c.key_count-count.ensures c.args.text.now K p t e) in
-    let own_key : c.loop-j.j < length (key_names_at c.requires.keyed.key_list c.requires.keyed.path) = let h = c.requires.keyed in omega (arith, c.key_count-count.ensures c.args.text.now h.key_list h.path h.tabled h.place_is, c.loop-j-test.true) in
-    let value : (f : Forest) → Tape c.args.src.now c.args.tape.now c.args.lo c.args.hi f → Node c.args.src.now c.args.tape.now (c.find_key-x.result + 1) 0 (value_in (called (key_bytes c.args.text.now c.args.table.now (c.args.own + 1 + c.loop-j.j)) f)) = value-node c.loop-j.j c.requires.keyed (own_key) c.find_key-x.result (rw c.key_name-key.ensures at c.find_key-x.ensures) in
+    let few : c.key_count-count.result ≤ 4 = let h = c.requires.keyed in omega (arith, few-keys c.args.keys.now.text.now h.key_list h.tabled.accepted h.path, c.key_count-count.ensures h.key_list h.path h.tabled h.place_is) in
+    let long : OfPlace c.args.keys.now.text.now c.args.keys.now.table.now c.args.keys.now.paths c.args.own (λ K p. length (key_names_at K p) ≤ length c.args.values) = λ K p t e. let l : length c.args.values ≡ 4 = search rules in omega (arith, few, c.key_count-count.ensures K p t e) in
+    let own_key : c.loop-j.j < length (key_names_at c.requires.keyed.key_list c.requires.keyed.path) = let h = c.requires.keyed in omega (arith, c.key_count-count.ensures h.key_list h.path h.tabled h.place_is, c.loop-j-test.true) in
+    let value : (f : Forest) → Tape c.args.doc.now.src.now c.args.doc.now.tape.now c.args.lo c.args.hi f → Node c.args.doc.now.src.now c.args.doc.now.tape.now (c.find_key-x.result + 1) 0 (value_in (called (key_bytes c.args.keys.now.text.now c.args.keys.now.table.now (c.args.own + 1 + c.loop-j.j)) f)) = value-node c.loop-j.j c.requires.keyed (own_key) c.find_key-x.result (rw (c.part-key.ensures, c.key_name.ensures) at c.find_key-x.ensures) in
     let a = c.args in
     let o = c.loop-j in
-    (omega arith, λ K p t e f h. let l : o.j < length (key_names_at K p) = omega (arith, c.key_count-count.ensures a.text.now K p t e, c.loop-j-test.true) in let q = rw c.view_at-v.ensures at c.same_bytes.ensures in (o.invariant.1 K p t e f h ∙ keys_on a.s.now a.keys (key_names_at K p) f o.j l (long K p t e) (key-name-is t p a.own e o.j l) (value f h).bytes-are (sym q ∙ c.if-not-same_bytes.false)))
+    λ K p t e f h. let l : o.j < length (key_names_at K p) = omega (arith, c.key_count-count.ensures K p t e, c.loop-j-test.true) in let q = rw (c.part.ensures, c.view-v.ensures) at (simp between_is at c.same_bytes.ensures) in (o.invariant K p t e f h ∙ keys_on a.s.now a.values (key_names_at K p) f o.j l (long K p t e) (key-name-is t p a.own e o.j l) (value f h).bytes-are (sym q ∙ c.if-not-same_bytes.false))
 
 pub returns : goal.returns
 returns c =
-    let few : c.key_count-count.result ≤ 4 = let h = c.requires.keyed in omega (arith, few-keys c.args.text.now h.key_list h.tabled.accepted h.path, c.key_count-count.ensures c.args.text.now h.key_list h.path h.tabled h.place_is) in
-    let long : OfPlace c.args.text.now c.args.table.now c.args.n c.args.own (λ K p. length (key_names_at K p) ≤ length c.args.keys) = λ K p t e. let l : length c.args.keys ≡ 4 = search rules in omega (arith, few, c.key_count-count.ensures c.args.text.now K p t e) in
+    let few : c.key_count-count.result ≤ 4 = let h = c.requires.keyed in omega (arith, few-keys c.args.keys.now.text.now h.key_list h.tabled.accepted h.path, c.key_count-count.ensures h.key_list h.path h.tabled h.place_is) in
+    let long : OfPlace c.args.keys.now.text.now c.args.keys.now.table.now c.args.keys.now.paths c.args.own (λ K p. length (key_names_at K p) ≤ length c.args.values) = λ K p t e. let l : length c.args.values ≡ 4 = search rules in omega (arith, few, c.key_count-count.ensures K p t e) in
     λ K p t e f h.
     let a = c.args in
     let o = c.loop-j in
-    sym (o.invariant.1 K p t e f h ∙ keys-done a.s.now a.keys (key_names_at K p) f o.j (omega (arith, c.key_count-count.ensures a.text.now K p t e, c.loop-j-test.false)) (long K p t e))
+    sym (o.invariant K p t e f h ∙ keys-done a.s.now a.values (key_names_at K p) f o.j (omega (arith, c.key_count-count.ensures K p t e, c.loop-j-test.false)) (long K p t e))

@@ -8,10 +8,7 @@ abbrev pub decreases-arrange_content : goal.decreases-arrange_content
 decreases-arrange_content l = 2 * (l.hi - l.lo) + 1
 
 abbrev pub decreases-arrange_element : goal.decreases-arrange_element
-decreases-arrange_element l = 2 * (next_at l.tape.now l.p - l.p)
+decreases-arrange_element l = 2 * (next_at l.doc.now.tape.now l.p - l.p)
 
 abbrev pub invariant-arrange_content-loop-j : goal.invariant-arrange_content-loop-j
-invariant-arrange_content-loop-j l = Progress l.text l.table l.n l.place l.src l.tape l.lo l.hi l.initial.out l.m l.order l.j l.k l.to l.out
-
-abbrev pub decreases-arrange_content-loop-j : goal.decreases-arrange_content-loop-j
-decreases-arrange_content-loop-j l = l.k - l.j
+invariant-arrange_content-loop-j l = Progress l.keys.text.now l.keys.table.now l.keys.paths l.place l.doc.src.now l.doc.tape.now l.lo l.hi l.initial.out l.m l.order l.j l.k l.to l.out

@@ -1,10 +1,7 @@
 -- `copy` meets its contract: the nodes passed stand in the second tape.
-use Prim.Native.Nat.{◌-◌, ◌≤◌}
+use Prim.Native.Nat.{◌+◌, ◌-◌}
 use Rattle.keys.specs.Copied.{Copied}
 use Rattle.keys.proofs.arrange.copy.Given as goal
 
 abbrev pub invariant-loop-i : goal.invariant-loop-i
-invariant-loop-i l = (l.lo ≤ l.i) × (l.i ≤ l.hi) × Copied l.tape l.lo l.i l.initial.out l.m l.to l.out
-
-abbrev pub decreases-loop-i : goal.decreases-loop-i
-decreases-loop-i l = l.hi - l.i
+invariant-loop-i l = Copied l.tape l.lo l.i l.initial.out l.m (l.m + (l.i - l.lo)) l.out

@@ -1,4 +1,5 @@
 -- The place and the number of the names behind i, going down from what is known.
+use Rattle.std.proofs.lemmas.Slice.{between_is}
 use mathlib.Core.Path.{sym}
 use lib.Seq.{length-take-le}
 use Prim.Native.Nat.{◌+◌}
@@ -21,8 +22,8 @@ overflow_add-i-in-loop-i c = omega arith
 pub name_len-m-requires : goal.name_len-m-requires
 name_len-m-requires c = omega (arith, row_within c.loop-i.invariant.0.row)
 
-pub slice_bounds-child-end : goal.slice_bounds-child-end
-slice_bounds-child-end c = sym (length-take-le c.args.at c.args.text.now (omega (arith, c.requires.line.context-ends, name-bounds c.requires.line)))
+pub slice_bounds-before-end : goal.slice_bounds-before-end
+slice_bounds-before-end c = sym (length-take-le c.args.at c.args.text.now (omega (arith, c.requires.line.context-ends, name-bounds c.requires.line)))
 
 pub overflow_add-i-in-loop-i-2 : goal.overflow_add-i-in-loop-i-2
 overflow_add-i-in-loop-i-2 c = omega arith
@@ -34,7 +35,7 @@ pub overflow_add-i-in-loop-i-4 : goal.overflow_add-i-in-loop-i-4
 overflow_add-i-in-loop-i-4 c = omega (arith, rowed-fits c.loop-i.invariant.0 c.loop-i-test.true c.name_len-m.ensures)
 
 pub child-place-requires : goal.child-place-requires
-child-place-requires c = (walk-placed c.args.text.now c.args.at c.args.table.now c.args.n (c.args.at + 1) c.args.end c.loop-i.i c.loop-i.place c.loop-i.invariant.3 (record { keys = c.requires.keys; table = c.requires.table }) (record { names = c.requires.line.key.context; row = context-row c.requires.line }), omega arith, omega (arith, rowed-fits c.loop-i.invariant.0 c.loop-i-test.true c.name_len-m.ensures))
+child-place-requires c = (walk-placed c.args.text.now c.args.at c.args.table.now c.args.n (c.args.at + 1) c.args.end c.loop-i.i c.loop-i.place c.loop-i.invariant.3 (record { keys = c.requires.keys; table = c.requires.table }) (record { names = c.requires.line.key.context; row = context-row c.requires.line }))
 
 pub overflow_add-depth : goal.overflow_add-depth
 overflow_add-depth c = omega (arith, row_from c.loop-i.invariant.0.row)
@@ -53,7 +54,7 @@ loop-i-preserved c = let f = rowed-fits c.loop-i.invariant.0 c.loop-i-test.true 
   rowed-go c.loop-i.invariant.0 c.loop-i-test.true c.name_len-m.ensures,
   omega arith,
   count_turn c.loop-i.depth c.loop-i.invariant.2 c.loop-i-test.true c.name_len-m.ensures,
-  walk_turn c.args.text.now c.args.at c.args.table.now c.args.n (c.args.at + 1) c.args.end c.loop-i.i c.loop-i.place c.loop-i.invariant.3 c.name_len-m.result c.child-place.result c.loop-i-test.true c.name_len-m.ensures c.child-place.ensures,
+  walk_turn c.args.text.now c.args.at c.args.table.now c.args.n (c.args.at + 1) c.args.end c.loop-i.i c.loop-i.place c.loop-i.invariant.3 c.name_len-m.result c.child-place.result c.loop-i-test.true c.name_len-m.ensures (simp between_is at c.child-place.ensures),
 )
 
 pub returns : goal.returns

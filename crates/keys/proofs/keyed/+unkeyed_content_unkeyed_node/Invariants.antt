@@ -10,10 +10,10 @@ abbrev pub decreases-unkeyed_content : goal.decreases-unkeyed_content
 decreases-unkeyed_content l = 2 * (l.hi - l.lo) + 1
 
 abbrev pub decreases-unkeyed_node : goal.decreases-unkeyed_node
-decreases-unkeyed_node l = 2 * (next_at l.tape.now l.p - l.p)
+decreases-unkeyed_node l = 2 * (next_at l.doc.now.tape.now l.p - l.p)
 
 abbrev pub invariant-unkeyed_content-loop-p : goal.invariant-unkeyed_content-loop-p
-invariant-unkeyed_content-loop-p l = (l.lo ≤ l.p) × Walk l.text l.table l.n l.place l.src l.tape l.p l.hi × OfNodes l.text l.table l.n l.place l.src l.tape l.lo l.hi (λ K q f. Going l.src l.tape l.p l.hi (keyless K q f) (keyless K q))
+invariant-unkeyed_content-loop-p l = (l.lo ≤ l.p) × Walk l.keys.text.now l.keys.table.now l.keys.paths l.place l.doc.src.now l.doc.tape.now l.p l.hi × OfNodes l.keys.text.now l.keys.table.now l.keys.paths l.place l.doc.src.now l.doc.tape.now l.lo l.hi (λ K q f. Going l.doc.src.now l.doc.tape.now l.p l.hi (keyless K q f) (keyless K q))
 
 abbrev pub decreases-unkeyed_content-loop-p : goal.decreases-unkeyed_content-loop-p
 decreases-unkeyed_content-loop-p l = l.hi - l.p

@@ -1,31 +1,26 @@
 -- `keys::keyed::is_value` meets its contract: a run of 1 to 32 bytes is a value if each byte is a name's. Assumes nothing.
 use native.Mathlib.Omega.{arith}
-use mathlib.Core.Path.{refl, sym, ◌∙◌}
-use Rattle.keys.specs.Values.{value-short, value-long, value-names, names-stop, names_more, names-done}
+use Rattle.std.proofs.Common.{rules, tests, ◌≡◌, refl, sym, ap, ◌∙◌}
+use Rattle.std.specs.Prelude.{Bool, List, [], ◌∷◌, ◌&&◌}
+use Rattle.std.specs.List.{list_all}
+use Rattle.std.proofs.lemmas.Iterator.{YieldsList-from_slice}
+use Rattle.std.proofs.lemmas.Iterator.Search.{all_from_yields_List}
+use Rattle.xml.specs.Bytes.{all, is_name_byte}
+use Rattle.keys.specs.Values.{value_empty, value_over, value_names}
 use Rattle.keys.proofs.keyed.is_value.Goals as goal
 
-pub returns-then-e-a-lt1 : goal.returns-then-e-a-lt1
-returns-then-e-a-lt1 c = sym (value-short c.args.src.now c.args.a c.args.e (omega arith) (omega arith))
+all-is : {A : Type 0} (f : A → Bool) (l : List A) → all f l ≡ list_all f l
+unfolding all
+all-is f [] = refl
+all-is f (x ∷ l) = ap (λ b. f x && b) (all-is f l)
 
-pub returns-then-e-a-gt32 : goal.returns-then-e-a-gt32
-returns-then-e-a-gt32 c = sym (value-long c.args.src.now c.args.a c.args.e (omega arith) (omega arith))
+pub returns-then-run-lt1 : goal.returns-then-run-lt1
+returns-then-run-lt1 c = sym (value_empty c.args.run.now c.if-run-lt1.true)
 
-pub loop-i-init : goal.loop-i-init
-loop-i-init c = (omega arith, omega arith, refl)
-
-pub returns-then-not-is_name_byte : goal.returns-then-not-is_name_byte
-returns-then-not-is_name_byte c = let src = c.args.src.now in
-    let i = c.loop-i.i in
-    let e = c.args.e in
-    sym (value-names src c.args.a e (omega arith) (omega arith) (omega arith) ∙ c.loop-i.invariant.2
-    ∙ names-stop src i e (omega arith) (omega arith) (sym c.is_name_byte.ensures ∙ c.if-not-is_name_byte.true))
-
-pub loop-i-preserved : goal.loop-i-preserved
-loop-i-preserved c = let src = c.args.src.now in
-    let i = c.loop-i.i in
-    (omega arith, omega arith, c.loop-i.invariant.2 ∙ names_more src i c.args.e (omega arith) (omega arith) (sym c.is_name_byte.ensures ∙ c.if-not-is_name_byte.false))
+pub returns-then-run-gt32 : goal.returns-then-run-gt32
+returns-then-run-gt32 c = sym (value_over c.args.run.now c.if-run-gt32.true)
 
 pub returns : goal.returns
-returns c = let src = c.args.src.now in
-    let e = c.args.e in
-    sym (value-names src c.args.a e (omega arith) (omega arith) (omega arith) ∙ c.loop-i.invariant.2 ∙ names-done src c.loop-i.i e (omega arith) (omega arith))
+returns c = let s = c.args.run.now in
+    let e : c.all.result ≡ list_all is_name_byte s = all_from_yields_List is_name_byte _ _ _ c.all.ensures.ran (YieldsList-from_slice s (search rules)) (λ x b q k. search (rules, tests)) in
+    e ∙ sym (value_names s (omega arith) (omega arith) ∙ all-is is_name_byte s)

@@ -1,5 +1,4 @@
 -- `compare_keys` meets its contract: the values from key i on compare as all of them do.
-use Prim.Native.Nat.{◌-◌, ◌≤◌}
 use mathlib.Core.Path.{◌≡◌}
 use lib.ListN.{drop}
 use Rattle.xml.specs.Forest.{Forest}
@@ -11,8 +10,5 @@ use Rattle.keys.specs.Labelled.{values_of}
 use Rattle.keys.proofs.label.compare_keys.Given as goal
 
 abbrev pub invariant-loop-i : goal.invariant-loop-i
-invariant-loop-i l = (l.i ≤ l.count) × OfPlace l.text l.table l.n l.own (λ K p. (f1 f2 : Forest) → Tape l.src1 l.tape1 l.lo1 l.hi1 f1 → Tape l.src2 l.tape2 l.lo2 l.hi2 f2
+invariant-loop-i l = OfPlace l.keys.text.now l.keys.table.now l.keys.paths l.own (λ K p. (f1 f2 : Forest) → Tape l.first.src.now l.first.tape.now l.lo1 l.hi1 f1 → Tape l.second.src.now l.second.tape.now l.lo2 l.hi2 f2
     → labels.cmp (values_of (key_names_at K p) f1) (values_of (key_names_at K p) f2) ≡ labels.cmp (values_of (drop l.i (key_names_at K p)) f1) (values_of (drop l.i (key_names_at K p)) f2))
-
-abbrev pub decreases-loop-i : goal.decreases-loop-i
-decreases-loop-i l = l.count - l.i

@@ -1,6 +1,5 @@
 -- `find_key` meets its contract: the nodes left hold all elements of the name.
 use Prim.Native.Nat.{◌-◌}
-use lib.Seq.{slice}
 use Rattle.xml.specs.Forest.{Forest}
 use Rattle.xml.specs.Tape.{Tape}
 use Rattle.keys.specs.Version.{called}
@@ -8,7 +7,7 @@ use Rattle.keys.specs.Walks.{Going}
 use Rattle.keys.proofs.label.find_key.Given as goal
 
 abbrev pub invariant-loop-p : goal.invariant-loop-p
-invariant-loop-p l = (f : Forest) → Tape l.src l.tape l.lo l.hi f → Going l.src l.tape l.p l.hi (called (slice l.a l.e l.text) f) (called (slice l.a l.e l.text))
+invariant-loop-p l = (f : Forest) → Tape l.doc.src.now l.doc.tape.now l.lo l.hi f → Going l.doc.src.now l.doc.tape.now l.p l.hi (called l.name f) (called l.name)
 
 abbrev pub decreases-loop-p : goal.decreases-loop-p
 decreases-loop-p l = l.hi - l.p

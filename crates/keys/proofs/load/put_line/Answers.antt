@@ -26,4 +26,4 @@ pub put_keys-requires : goal.put_keys-requires
 put_keys-requires c = room-kept c.requires.key-room (ap length c.put_path.ensures ∙ entry-size c.args.table.now c.args.n _ _)
 
 pub returns : goal.returns
-returns c = line-put c.requires (c.put_path.ensures ∙ ap (λ (b : ℕ). entry_set c.args.table.now c.args.n ((c.args.context + 3) * 64 + (c.args.name - (c.args.context + 3))) (c.args.place * 16 + c.args.keys * 2 + b)) c.inner_bit.ensures) c.put_keys.ensures c.set_inner.ensures
+returns c = line-put c.requires (c.put_path.ensures ∙ ap (λ (b : ℕ). entry_set c.args.table.now c.args.n ((c.args.line.context + 3) * 64 + (c.args.line.name - (c.args.line.context + 3))) (c.args.place * 16 + c.args.keys * 2 + b)) c.inner_bit.ensures) c.put_keys.ensures c.set_inner.ensures

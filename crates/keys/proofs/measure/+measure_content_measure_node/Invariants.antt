@@ -12,11 +12,11 @@ abbrev pub decreases-measure_content : goal.decreases-measure_content
 decreases-measure_content l = 2 * (l.hi - l.lo) + 1
 
 abbrev pub decreases-measure_node : goal.decreases-measure_node
-decreases-measure_node l = 2 * (next_at l.tape.now l.p - l.p)
+decreases-measure_node l = 2 * (next_at l.doc.now.tape.now l.p - l.p)
 
 abbrev pub invariant-measure_content-loop-p : goal.invariant-measure_content-loop-p
-invariant-measure_content-loop-p l = (l.lo ≤ l.p) × Walk l.text l.table l.n l.place l.src l.tape l.p l.hi × Within l.s × (l.s.over ≡ false)
-    × OfNodes l.text l.table l.n l.place l.src l.tape l.lo l.hi (λ K q f. Going l.src l.tape l.p l.hi (measured K q l.depth f l.initial.s) (λ g. measured K q l.depth g l.s))
+invariant-measure_content-loop-p l = (l.lo ≤ l.p) × Walk l.keys.text.now l.keys.table.now l.keys.paths l.place l.doc.src.now l.doc.tape.now l.p l.hi × Within l.s × (l.s.over ≡ false)
+    × OfNodes l.keys.text.now l.keys.table.now l.keys.paths l.place l.doc.src.now l.doc.tape.now l.lo l.hi (λ K q f. Going l.doc.src.now l.doc.tape.now l.p l.hi (measured K q l.depth f l.initial.s) (λ g. measured K q l.depth g l.s))
 
 abbrev pub decreases-measure_content-loop-p : goal.decreases-measure_content-loop-p
 decreases-measure_content-loop-p l = l.hi - l.p

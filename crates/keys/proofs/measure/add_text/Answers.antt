@@ -1,7 +1,6 @@
 -- `keys::measure::add_text` meets its contract: a run that is dropped adds nothing. Assumes nothing.
 use native.Mathlib.Omega.{arith}
 use mathlib.Core.Path.{ap, sym, ◌∙◌}
-use lib.Seq.{slice, length-slice}
 use Rattle.xml.specs.Read.{unescape}
 use Rattle.xml.specs.TapeLaws.{length-escape, length-unescape}
 use Rattle.keys.specs.Measure.{plus}
@@ -10,12 +9,11 @@ use borrow.Author.Rules.{rules}
 use Rattle.keys.proofs.measure.add_text.Goals as goal
 
 pub returns-then-is_dropped : goal.returns-then-is_dropped
-returns-then-is_dropped c text K p t e = sym (text-dropped K p c.args.s (unescape 0 (slice c.args.a c.args.e c.args.src.now)) (sym (c.is_dropped.ensures text K p t e) ∙ c.if-is_dropped.true))
+returns-then-is_dropped c K p t e = sym (text-dropped K p c.args.s (unescape 0 c.args.run.now) (sym (c.is_dropped.ensures K p t e) ∙ c.if-is_dropped.true))
 
 pub add-requires : goal.add-requires
-add-requires c = let raw = slice c.args.a c.args.e c.args.src.now in
-    (search rules, omega arith, omega (arith, c.text_len.ensures, length-escape (unescape 0 raw), length-unescape 0 raw, length-slice c.args.a c.args.e c.args.src.now (omega arith)))
+add-requires c = (search rules, omega arith, omega (arith, c.text_len.ensures, length-escape (unescape 0 c.args.run.now), length-unescape 0 c.args.run.now))
 
 pub returns : goal.returns
-returns c text K p t e = c.add.ensures ∙ ap (plus c.args.s 1) c.text_len.ensures
-    ∙ sym (text-kept K p c.args.s (unescape 0 (slice c.args.a c.args.e c.args.src.now)) (sym (c.is_dropped.ensures text K p t e) ∙ c.if-is_dropped.false))
+returns c K p t e = c.add.ensures ∙ ap (plus c.args.s 1) c.text_len.ensures
+    ∙ sym (text-kept K p c.args.s (unescape 0 c.args.run.now) (sym (c.is_dropped.ensures K p t e) ∙ c.if-is_dropped.false))

@@ -11,17 +11,14 @@ loop-at-init c = c.requires
 pub line_at-requires : goal.line_at-requires
 line_at-requires c = (omega arith, begun-none c.args.text.now c.loop-at.at)
 
-pub returns-in-Wrong : goal.returns-in-Wrong
-returns-in-Wrong c = pass-fails c.args.text.now c.loop-at.at c.loop-at.invariant.1 c.loop-at-test.true (read_none c.args.text.now c.loop-at.at c.in-Wrong.is c.line_at.ensures)
-
-pub overflow_add-at-in-Parts : goal.overflow_add-at-in-Parts
-overflow_add-at-in-Parts c = let l = read-line c.in-Parts.is c.line_at.ensures in omega (arith, l.within)
+pub returns-in_default : goal.returns-in_default
+returns-in_default c = pass-fails c.args.text.now c.loop-at.at c.loop-at.invariant.1 c.loop-at-test.true (read_none c.args.text.now c.loop-at.at c.in_default.is c.line_at.ensures)
 
 pub loop-at-smaller : goal.loop-at-smaller
-loop-at-smaller c = let l = read-line c.in-Parts.is c.line_at.ensures in omega (arith, l.within, l.context-ends, l.name-ends, l.names-end)
+loop-at-smaller c = let l = read-line c.in-Some.is c.line_at.ensures in omega (arith, l.within, l.context-ends, l.name-ends, l.names-end)
 
 pub loop-at-preserved : goal.loop-at-preserved
-loop-at-preserved c = (omega arith, pass-goes c.args.text.now c.loop-at.at c.loop-at.invariant.1 c.in-Parts.field-0 c.in-Parts.field-1 c.in-Parts.names (read-line c.in-Parts.is c.line_at.ensures))
+loop-at-preserved c = (omega arith, pass-goes c.args.text.now c.loop-at.at c.loop-at.invariant.1 _ _ _ (read-line c.in-Some.is c.line_at.ensures))
 
 pub returns : goal.returns
 returns c = pass-ends c.args.text.now c.loop-at.at c.loop-at.invariant.1 (omega arith) (λ z. omega arith)

@@ -1,13 +1,13 @@
 -- The names from i on have the answer of all of them.
+use Rattle.std.proofs.lemmas.Slice.{between_is}
 use native.Mathlib.Omega.{arith}
 use mathlib.Core.Path.{sym, ◌∙◌}
-use lib.Seq.{slice}
 use Rattle.xml.specs.Bytes.{any, same}
 use Rattle.keys.proofs.RowLaws.{along-starts, among-found, among-turn, among-ends, row_within, row_from, rowed-fits, rowed-turn}
 use Rattle.keys.proofs.notation.is_among.Goals as goal
 
 pub loop-i-init : goal.loop-i-init
-loop-i-init c = (c.requires.0, along-starts (any (same (slice c.args.a c.args.e c.args.word.now))) c.args.from)
+loop-i-init c = (c.requires, along-starts (any (same c.args.word.now)) c.args.from)
 
 pub overflow_add-i : goal.overflow_add-i
 overflow_add-i c = omega (arith, row_from c.loop-i.invariant.0.row)
@@ -27,11 +27,11 @@ overflow_add-i-in-loop-i-3 c = omega arith
 pub overflow_add-i-in-loop-i-4 : goal.overflow_add-i-in-loop-i-4
 overflow_add-i-in-loop-i-4 c = omega (arith, rowed-fits c.loop-i.invariant.0 c.loop-i-test.true c.name_len-n.ensures)
 
-pub same_bytes-requires : goal.same_bytes-requires
-same_bytes-requires c = let f = rowed-fits c.loop-i.invariant.0 c.loop-i-test.true c.name_len-n.ensures in record { le₁ = c.requires.1; in₁ = c.requires.2; le₂ = omega arith; in₂ = omega arith }
+pub slice_bounds-same_bytes-end : goal.slice_bounds-same_bytes-end
+slice_bounds-same_bytes-end c = let f = rowed-fits c.loop-i.invariant.0 c.loop-i-test.true c.name_len-n.ensures in omega arith
 
 pub returns-then-same_bytes : goal.returns-then-same_bytes
-returns-then-same_bytes c = among-found (slice c.args.a c.args.e c.args.word.now) c.loop-i.invariant.1 c.loop-i-test.true c.name_len-n.ensures (sym c.same_bytes.ensures ∙ c.if-same_bytes.true)
+returns-then-same_bytes c = among-found c.args.word.now c.loop-i.invariant.1 c.loop-i-test.true c.name_len-n.ensures (sym (simp between_is at c.same_bytes.ensures) ∙ c.if-same_bytes.true)
 
 pub overflow_add-i-in-loop-i-5 : goal.overflow_add-i-in-loop-i-5
 overflow_add-i-in-loop-i-5 c = omega (arith, rowed-fits c.loop-i.invariant.0 c.loop-i-test.true c.name_len-n.ensures)
@@ -43,7 +43,7 @@ pub loop-i-smaller : goal.loop-i-smaller
 loop-i-smaller c = omega (arith, rowed-fits c.loop-i.invariant.0 c.loop-i-test.true c.name_len-n.ensures)
 
 pub loop-i-preserved : goal.loop-i-preserved
-loop-i-preserved c = (rowed-turn c.loop-i.invariant.0 c.loop-i-test.true c.name_len-n.ensures, among-turn (slice c.args.a c.args.e c.args.word.now) c.loop-i.invariant.1 c.loop-i-test.true c.name_len-n.ensures (sym c.same_bytes.ensures ∙ c.if-same_bytes.false))
+loop-i-preserved c = (rowed-turn c.loop-i.invariant.0 c.loop-i-test.true c.name_len-n.ensures, among-turn c.args.word.now c.loop-i.invariant.1 c.loop-i-test.true c.name_len-n.ensures (sym (simp between_is at c.same_bytes.ensures) ∙ c.if-same_bytes.false))
 
 pub returns : goal.returns
-returns c = among-ends (slice c.args.a c.args.e c.args.word.now) c.loop-i.invariant.1 (omega arith)
+returns c = among-ends c.args.word.now c.loop-i.invariant.1 (omega arith)

@@ -12,8 +12,8 @@ use Rattle.keys.specs.Gathering.{Gathering}
 use Rattle.keys.proofs.order.order_in.Given as goal
 
 abbrev pub invariant-loop-p : goal.invariant-loop-p
-invariant-loop-p l = (l.lo ≤ l.p) × Checked l.text l.table l.n l.place l.src l.tape l.p l.hi × (length l.order ≡ 512) × AllEntries (Labelled l.text l.table l.n l.place l.src l.tape) l.order l.k
-    × OfPlace l.text l.table l.n l.place (λ K q. (f : Forest) → Tape l.src l.tape l.lo l.hi f → Gathering K q l.src l.tape l.lo l.hi l.order f l.p l.k)
+invariant-loop-p l = (l.lo ≤ l.p) × Checked l.keys.text.now l.keys.table.now l.keys.paths l.place l.doc.src.now l.doc.tape.now l.p l.hi × (length l.order ≡ 512) × AllEntries (Labelled l.keys.text.now l.keys.table.now l.keys.paths l.place l.doc.src.now l.doc.tape.now) l.order l.k
+    × OfPlace l.keys.text.now l.keys.table.now l.keys.paths l.place (λ K q. (f : Forest) → Tape l.doc.src.now l.doc.tape.now l.lo l.hi f → Gathering K q l.doc.src.now l.doc.tape.now l.lo l.hi l.order f l.p l.k)
 
 abbrev pub decreases-loop-p : goal.decreases-loop-p
 decreases-loop-p l = l.hi - l.p

@@ -11,8 +11,8 @@ use Rattle.keys.proofs.order.rank_of.Given as goal
 
 abbrev pub invariant-loop-low : goal.invariant-loop-low
 invariant-loop-low l = (l.low ≤ l.high) × (l.high ≤ l.k)
-    × OfPlace l.text l.table l.n l.place (λ K q. (m : Bytes) (i : Forest) → Node l.src l.tape l.p 1 m → Tape l.src l.tape (l.p + 1) (next_at l.tape l.p) i
-    → (lo hi : ℕ) (s : Forest) → Lists l.src l.tape lo hi l.order 0 l.k s → Ranking K q l.src l.tape lo hi l.order l.k (label K q m i) s l.low l.high)
+    × OfPlace l.keys.text.now l.keys.table.now l.keys.paths l.place (λ K q. (m : Bytes) (i : Forest) → Node l.doc.src.now l.doc.tape.now l.p 1 m → Tape l.doc.src.now l.doc.tape.now (l.p + 1) (next_at l.doc.tape.now l.p) i
+    → (lo hi : ℕ) (s : Forest) → Lists l.doc.src.now l.doc.tape.now lo hi l.order 0 l.k s → Ranking K q l.doc.src.now l.doc.tape.now lo hi l.order l.k (label K q m i) s l.low l.high)
 
 abbrev pub decreases-loop-low : goal.decreases-loop-low
 decreases-loop-low l = l.high - l.low

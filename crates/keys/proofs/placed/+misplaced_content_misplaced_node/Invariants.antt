@@ -10,10 +10,10 @@ abbrev pub decreases-misplaced_content : goal.decreases-misplaced_content
 decreases-misplaced_content l = 2 * (l.hi - l.lo) + 1
 
 abbrev pub decreases-misplaced_node : goal.decreases-misplaced_node
-decreases-misplaced_node l = 2 * (next_at l.tape.now l.p - l.p)
+decreases-misplaced_node l = 2 * (next_at l.doc.now.tape.now l.p - l.p)
 
 abbrev pub invariant-misplaced_content-loop-p : goal.invariant-misplaced_content-loop-p
-invariant-misplaced_content-loop-p l = (l.lo ≤ l.p) × Walk l.text l.table l.n l.place l.src l.tape l.p l.hi × OfNodes l.text l.table l.n l.place l.src l.tape l.lo l.hi (λ K q f. Going l.src l.tape l.p l.hi (astray K q f) (astray K q))
+invariant-misplaced_content-loop-p l = (l.lo ≤ l.p) × Walk l.keys.text.now l.keys.table.now l.keys.paths l.place l.doc.src.now l.doc.tape.now l.p l.hi × OfNodes l.keys.text.now l.keys.table.now l.keys.paths l.place l.doc.src.now l.doc.tape.now l.lo l.hi (λ K q f. Going l.doc.src.now l.doc.tape.now l.p l.hi (astray K q f) (astray K q))
 
 abbrev pub decreases-misplaced_content-loop-p : goal.decreases-misplaced_content-loop-p
 decreases-misplaced_content-loop-p l = l.hi - l.p

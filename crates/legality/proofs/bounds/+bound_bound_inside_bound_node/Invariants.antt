@@ -12,10 +12,10 @@ abbrev pub decreases-bound_inside : goal.decreases-bound_inside
 decreases-bound_inside l = 3 * (l.hi - l.lo) + 2
 
 abbrev pub decreases-bound_node : goal.decreases-bound_node
-decreases-bound_node l = 3 * (next_at l.tape.now l.p - l.p)
+decreases-bound_node l = 3 * (next_at l.doc.now.tape.now l.p - l.p)
 
 abbrev pub invariant-bound-loop-p : goal.invariant-bound-loop-p
-invariant-bound-loop-p l = Gone l.src l.tape l.lo l.p l.hi l.left l.nodes l.bytes l.most_nodes l.most_bytes
+invariant-bound-loop-p l = Gone l.doc.src.now l.doc.tape.now l.lo l.p l.hi l.left l.nodes l.bytes l.most_nodes l.most_bytes
 
 abbrev pub decreases-bound-loop-p : goal.decreases-bound-loop-p
 decreases-bound-loop-p l = l.hi - l.p

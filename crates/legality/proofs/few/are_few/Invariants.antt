@@ -7,7 +7,7 @@ use Rattle.legality.specs.Few.{siblings}
 use Rattle.legality.proofs.few.are_few.Given as goal
 
 abbrev pub invariant-loop-p : goal.invariant-loop-p
-invariant-loop-p l = (l.k ≤ 4) × Valid l.src l.tape l.p l.hi × ((f g : Forest) → Tape l.src l.tape l.lo l.hi f → Tape l.src l.tape l.p l.hi g → siblings f ≡ l.k + siblings g)
+invariant-loop-p l = (l.k ≤ 4) × Valid l.doc.src.now l.doc.tape.now l.p l.hi × ((f g : Forest) → Tape l.doc.src.now l.doc.tape.now l.lo l.hi f → Tape l.doc.src.now l.doc.tape.now l.p l.hi g → siblings f ≡ l.k + siblings g)
 
 abbrev pub decreases-loop-p : goal.decreases-loop-p
 decreases-loop-p l = l.hi - l.p

@@ -13,8 +13,8 @@ use Rattle.legality.proofs.few.few_legal.Given as goal
 
 abbrev pub invariant-loop-p : goal.invariant-loop-p
 invariant-loop-p l = (l.count ≤ l.first)
-    × ((f : Forest) → Tape l.src l.tape l.lo l.hi f → Only l.n (set_of l.initial.left) → Way l.src l.tape l.lo l.p l.hi l.n (set_of l.initial.left) (without (set_of l.initial.left) (set_of l.left)) l.first l.count (judged l.n (set_of l.initial.left) empty_set 0 0 end f))
-    × Valid l.src l.tape l.lo l.p × Valid l.src l.tape l.p l.hi × (length l.left ≡ 16) × Within (set_of l.left) (set_of l.initial.left)
+    × ((f : Forest) → Tape l.doc.src.now l.doc.tape.now l.lo l.hi f → Only l.n (set_of l.initial.left.words) → Way l.doc.src.now l.doc.tape.now l.lo l.p l.hi l.n (set_of l.initial.left.words) (without (set_of l.initial.left.words) (set_of l.left.words)) l.first l.count (judged l.n (set_of l.initial.left.words) empty_set 0 0 end f))
+    × Valid l.doc.src.now l.doc.tape.now l.lo l.p × Valid l.doc.src.now l.doc.tape.now l.p l.hi × (length l.left.words ≡ 16) × Within (set_of l.left.words) (set_of l.initial.left.words)
 
 abbrev pub decreases-loop-p : goal.decreases-loop-p
 decreases-loop-p l = l.hi - l.p

@@ -6,6 +6,7 @@ use native.Mathlib.Omega.{arith}
 use mathlib.Core.Path.{◌≡◌, refl, sym, ◌∙◌, ap}
 use mathlib.Core.Bool.{true}
 use borrow.Author.Rules.{rules}
+use Rattle.std.specs.Prelude.{Some, None}
 use lib.ListN.{length, length-set}
 use Rattle.xml.specs.Bytes.{all}
 use Rattle.xml.specs.Forest.{end}
@@ -18,83 +19,89 @@ use Rattle.timestamp.specs.TakenText.{TakesText}
 use Rattle.versions.specs.Branches.{follows, first, way-start, way-few, way-done, way-other}
 use Rattle.versions.specs.Hashes.{noted-all, note-none, note-next, way-illegal, way-legal}
 use Rattle.legality.specs.Seen.{seen_more, hash-fits}
-use Rattle.legality.specs.Left.{Within, Took, took, within-read, within-less, none-taken, all-taken, more-taken, left-follow, way-untaken}
+use Rattle.legality.specs.Left.{Within, Took, took, within-read, within-less, none-taken, all-taken, more-taken, left-follow, way-missed, way-untaken}
 use Rattle.legality.proofs.front.branches_legal.Goals as goal
 
 pub loop-p-init : goal.loop-p-init
 unfolding all
 loop-p-init c = (omega arith, omega arith, refl, λ f t o. way-start t (none-taken (set_of c.args.times.words)), λ d t. note-none t, refl, refl, record { forest = end; tape = at-end refl }, c.requires, search rules, λ v q. q)
 
-pub view_at-v-requires : goal.view_at-v-requires
-view_at-v-requires c =
-    let here : Front c.args.src.now c.args.tape.now c.loop-p.p c.args.hi = front c.loop-p.invariant.8.tape c.loop-p-test.true in
+pub view-v-requires : goal.view-v-requires
+view-v-requires c =
+    let here : Front c.args.doc.now.src.now c.args.doc.now.tape.now c.loop-p.p c.args.hi = front c.loop-p.invariant.8.tape c.loop-p-test.true in
     here.held
 
 pub returns-then-v-ne2 : goal.returns-then-v-ne2
-returns-then-v-ne2 c f t o = sym (way-other (c.loop-p.invariant.3 f t o) c.loop-p-test.true (rw c.view_at-v.ensures at c.if-v-ne2.true))
+returns-then-v-ne2 c f t o = sym (way-other (c.loop-p.invariant.3 f t o) c.loop-p-test.true (rw c.view-v.ensures at c.if-v-ne2.true))
 
-pub take_at-start-requires : goal.take_at-start-requires
-take_at-start-requires c =
-    let here : Front c.args.src.now c.args.tape.now c.loop-p.p c.args.hi = front c.loop-p.invariant.8.tape c.loop-p-test.true in
-    rw c.view_at-v.ensures (omega arith, here.within, c.loop-p.invariant.9)
+pub take_at-requires : goal.take_at-requires
+take_at-requires c =
+    let here : Front c.args.doc.now.src.now c.args.doc.now.tape.now c.loop-p.p c.args.hi = front c.loop-p.invariant.8.tape c.loop-p-test.true in
+    rw c.view-v.ensures (omega arith, here.within)
+
+pub returns-in_default : goal.returns-in_default
+returns-in_default c f t o =
+    let kind : head_at c.args.doc.now.tape.now c.loop-p.p % 4 ≡ 2 = rw c.view-v.ensures at c.if-v-ne2.false in
+    let missed : TakesText (bytes_at c.args.doc.now.src.now c.args.doc.now.tape.now c.loop-p.p) c.loop-p.left.words c.take_at.new.left.words None = rw c.view-v.ensures at c.in_default.ensures in
+    sym (way-missed (set_of c.args.times.words) (set_of c.loop-p.left.words) (c.loop-p.invariant.3 f t o) c.loop-p-test.true kind missed.0)
 
 pub returns-then-start-first : goal.returns-then-start-first
 returns-then-start-first c f t o =
-    let kind : head_at c.args.tape.now c.loop-p.p % 4 ≡ 2 = rw c.view_at-v.ensures at c.if-v-ne2.false in
-    let taking : TakesText (bytes_at c.args.src.now c.args.tape.now c.loop-p.p) c.loop-p.left c.take_at-start.new.left c.take_at-start.result = rw c.view_at-v.ensures at c.take_at-start.ensures in
-    sym (way-untaken (set_of c.args.times.words) (set_of c.loop-p.left) (c.loop-p.invariant.3 f t o) c.loop-p-test.true kind (omega (arith, c.if-start-first.true, taking.0)))
+    let kind : head_at c.args.doc.now.tape.now c.loop-p.p % 4 ≡ 2 = rw c.view-v.ensures at c.if-v-ne2.false in
+    let taking : TakesText (bytes_at c.args.doc.now.src.now c.args.doc.now.tape.now c.loop-p.p) c.loop-p.left.words c.take_at.new.left.words (Some c.in-Some.start) = rw c.view-v.ensures at c.in-Some.ensures in
+    sym (way-untaken (set_of c.args.times.words) (set_of c.loop-p.left.words) (c.loop-p.invariant.3 f t o) c.loop-p-test.true kind c.in-Some.start taking.0 c.if-start-first.true)
 
 pub overflow_add-p : goal.overflow_add-p
 overflow_add-p c =
-    let here : Front c.args.src.now c.args.tape.now c.loop-p.p c.args.hi = front c.loop-p.invariant.8.tape c.loop-p-test.true in
+    let here : Front c.args.doc.now.src.now c.args.doc.now.tape.now c.loop-p.p c.args.hi = front c.loop-p.invariant.8.tape c.loop-p-test.true in
     omega (arith, here.held)
 
 pub hash-h-requires : goal.hash-h-requires
 hash-h-requires c =
-    let inside : Valid c.args.src.now c.args.tape.now (c.loop-p.p + 1) (next_at c.args.tape.now c.loop-p.p) = record { forest = _; tape = (first c.loop-p.invariant.8.tape c.loop-p-test.true).inside } in
-    rw c.view_at-v.ensures inside
+    let inside : Valid c.args.doc.now.src.now c.args.doc.now.tape.now (c.loop-p.p + 1) (next_at c.args.doc.now.tape.now c.loop-p.p) = record { forest = _; tape = (first c.loop-p.invariant.8.tape c.loop-p-test.true).inside } in
+    rw c.view-v.ensures inside
 
 pub overflow_cast-h : goal.overflow_cast-h
 overflow_cast-h c =
-    let inside : Valid c.args.src.now c.args.tape.now (c.loop-p.p + 1) (next_at c.args.tape.now c.loop-p.p) = record { forest = _; tape = (first c.loop-p.invariant.8.tape c.loop-p-test.true).inside } in
-    omega (arith, hash-fits inside.tape (rw c.view_at-v.ensures at c.hash-h.ensures))
+    let inside : Valid c.args.doc.now.src.now c.args.doc.now.tape.now (c.loop-p.p + 1) (next_at c.args.doc.now.tape.now c.loop-p.p) = record { forest = _; tape = (first c.loop-p.invariant.8.tape c.loop-p-test.true).inside } in
+    omega (arith, hash-fits inside.tape (rw c.view-v.ensures at c.hash-h.ensures))
 
 pub overflow_add-p-in-loop-p : goal.overflow_add-p-in-loop-p
 overflow_add-p-in-loop-p c =
-    let here : Front c.args.src.now c.args.tape.now c.loop-p.p c.args.hi = front c.loop-p.invariant.8.tape c.loop-p-test.true in
+    let here : Front c.args.doc.now.src.now c.args.doc.now.tape.now c.loop-p.p c.args.hi = front c.loop-p.invariant.8.tape c.loop-p-test.true in
     omega (arith, here.held)
 
 pub content_legal-requires : goal.content_legal-requires
 content_legal-requires c =
-    let inside : Valid c.args.src.now c.args.tape.now (c.loop-p.p + 1) (next_at c.args.tape.now c.loop-p.p) = record { forest = _; tape = (first c.loop-p.invariant.8.tape c.loop-p-test.true).inside } in
-    rw c.view_at-v.ensures (
+    let inside : Valid c.args.doc.now.src.now c.args.doc.now.tape.now (c.loop-p.p + 1) (next_at c.args.doc.now.tape.now c.loop-p.p) = record { forest = _; tape = (first c.loop-p.invariant.8.tape c.loop-p-test.true).inside } in
+    rw c.view-v.ensures (
       c.loop-p.invariant.7,
       inside,
-      rw c.view_at-v.ensures at c.hash-h.ensures,
+      rw c.view-v.ensures at c.hash-h.ensures,
       λ d t. noted-all _ c.loop-p.count d (c.loop-p.invariant.4 d t),
       λ d t. rw (c.loop-p.invariant.4 d t) at c.loop-p.invariant.6,
     )
 
 pub returns-then-not-content_legal : goal.returns-then-not-content_legal
 returns-then-not-content_legal c f t o =
-    let kind : head_at c.args.tape.now c.loop-p.p % 4 ≡ 2 = rw c.view_at-v.ensures at c.if-v-ne2.false in
-    let taking : TakesText (bytes_at c.args.src.now c.args.tape.now c.loop-p.p) c.loop-p.left c.take_at-start.new.left c.take_at-start.result = rw c.view_at-v.ensures at c.take_at-start.ensures in
-    let taken : Took (set_of c.loop-p.left) (bytes_at c.args.src.now c.args.tape.now c.loop-p.p) c.take_at-start.result = took _ _ _ _ (taking).0 c.if-start-first.false in
-    let had : Within (taken).set (set_of c.loop-p.left) = within-read _ _ _ (taken).is (taken).had in
-    let may : Only c.args.n (set_of c.args.times.words) → follows c.args.n (without (set_of c.args.times.words) (set_of c.loop-p.left)) c.loop-p.first (taken).set ≡ true = λ o. left-follow _ _ _ _ _ o c.loop-p.invariant.10 (had) (omega (arith, c.if-start-first.false, (taken).first)) in
-    let k = taken in sym (way-illegal (c.loop-p.invariant.3 f t o) c.loop-p-test.true kind k.set k.is (may o) (λ d g a b. sym c.if-not-content_legal.true ∙ (rw c.view_at-v.ensures at c.content_legal.ensures) d g a b))
+    let kind : head_at c.args.doc.now.tape.now c.loop-p.p % 4 ≡ 2 = rw c.view-v.ensures at c.if-v-ne2.false in
+    let taking : TakesText (bytes_at c.args.doc.now.src.now c.args.doc.now.tape.now c.loop-p.p) c.loop-p.left.words c.take_at.new.left.words (Some c.in-Some.start) = rw c.view-v.ensures at c.in-Some.ensures in
+    let taken : Took (set_of c.loop-p.left.words) (bytes_at c.args.doc.now.src.now c.args.doc.now.tape.now c.loop-p.p) c.in-Some.start = took _ _ _ (taking).0 in
+    let had : Within (taken).set (set_of c.loop-p.left.words) = within-read _ _ _ (taken).is (taken).had in
+    let may : Only c.args.n (set_of c.args.times.words) → follows c.args.n (without (set_of c.args.times.words) (set_of c.loop-p.left.words)) c.loop-p.first (taken).set ≡ true = λ o. left-follow _ _ _ _ _ o c.loop-p.invariant.10 (had) (omega (arith, c.if-start-first.false, (taken).first)) in
+    let k = taken in sym (way-illegal (c.loop-p.invariant.3 f t o) c.loop-p-test.true kind k.set k.is (may o) (λ d g a b. sym c.if-not-content_legal.true ∙ (rw c.view-v.ensures at c.content_legal.ensures) d g a b))
 
 pub offset_bounds-hashes-count : goal.offset_bounds-hashes-count
 offset_bounds-hashes-count c =
-    let taking : TakesText (bytes_at c.args.src.now c.args.tape.now c.loop-p.p) c.loop-p.left c.take_at-start.new.left c.take_at-start.result = rw c.view_at-v.ensures at c.take_at-start.ensures in
-    let taken : Took (set_of c.loop-p.left) (bytes_at c.args.src.now c.args.tape.now c.loop-p.p) c.take_at-start.result = took _ _ _ _ (taking).0 c.if-start-first.false in
+    let taking : TakesText (bytes_at c.args.doc.now.src.now c.args.doc.now.tape.now c.loop-p.p) c.loop-p.left.words c.take_at.new.left.words (Some c.in-Some.start) = rw c.view-v.ensures at c.in-Some.ensures in
+    let taken : Took (set_of c.loop-p.left.words) (bytes_at c.args.doc.now.src.now c.args.doc.now.tape.now c.loop-p.p) c.in-Some.start = took _ _ _ (taking).0 in
     let room : c.loop-p.count < 1000 = omega (arith, c.if-start-first.false, (taken).first, text-first _ _ (taken).is, c.loop-p.invariant.1) in
     omega (arith, room)
 
 pub bounds-hashes-count : goal.bounds-hashes-count
 bounds-hashes-count c =
-    let taking : TakesText (bytes_at c.args.src.now c.args.tape.now c.loop-p.p) c.loop-p.left c.take_at-start.new.left c.take_at-start.result = rw c.view_at-v.ensures at c.take_at-start.ensures in
-    let taken : Took (set_of c.loop-p.left) (bytes_at c.args.src.now c.args.tape.now c.loop-p.p) c.take_at-start.result = took _ _ _ _ (taking).0 c.if-start-first.false in
+    let taking : TakesText (bytes_at c.args.doc.now.src.now c.args.doc.now.tape.now c.loop-p.p) c.loop-p.left.words c.take_at.new.left.words (Some c.in-Some.start) = rw c.view-v.ensures at c.in-Some.ensures in
+    let taken : Took (set_of c.loop-p.left.words) (bytes_at c.args.doc.now.src.now c.args.doc.now.tape.now c.loop-p.p) c.in-Some.start = took _ _ _ (taking).0 in
     let room : c.loop-p.count < 1000 = omega (arith, c.if-start-first.false, (taken).first, text-first _ _ (taken).is, c.loop-p.invariant.1) in
     omega (arith, room)
 
@@ -103,36 +110,36 @@ set_seen-requires c = c.loop-p.invariant.5
 
 pub overflow_add-count : goal.overflow_add-count
 overflow_add-count c =
-    let taking : TakesText (bytes_at c.args.src.now c.args.tape.now c.loop-p.p) c.loop-p.left c.take_at-start.new.left c.take_at-start.result = rw c.view_at-v.ensures at c.take_at-start.ensures in
-    let taken : Took (set_of c.loop-p.left) (bytes_at c.args.src.now c.args.tape.now c.loop-p.p) c.take_at-start.result = took _ _ _ _ (taking).0 c.if-start-first.false in
+    let taking : TakesText (bytes_at c.args.doc.now.src.now c.args.doc.now.tape.now c.loop-p.p) c.loop-p.left.words c.take_at.new.left.words (Some c.in-Some.start) = rw c.view-v.ensures at c.in-Some.ensures in
+    let taken : Took (set_of c.loop-p.left.words) (bytes_at c.args.doc.now.src.now c.args.doc.now.tape.now c.loop-p.p) c.in-Some.start = took _ _ _ (taking).0 in
     let room : c.loop-p.count < 1000 = omega (arith, c.if-start-first.false, (taken).first, text-first _ _ (taken).is, c.loop-p.invariant.1) in
     omega (arith, room)
 
 pub loop-p-smaller : goal.loop-p-smaller
 loop-p-smaller c =
-    let here : Front c.args.src.now c.args.tape.now c.loop-p.p c.args.hi = front c.loop-p.invariant.8.tape c.loop-p-test.true in
-    let s = here in rw c.view_at-v.ensures (omega (arith, s.forward, s.inside))
+    let here : Front c.args.doc.now.src.now c.args.doc.now.tape.now c.loop-p.p c.args.hi = front c.loop-p.invariant.8.tape c.loop-p-test.true in
+    let s = here in rw c.view-v.ensures (omega (arith, s.forward, s.inside))
 
 pub loop-p-preserved : goal.loop-p-preserved
 loop-p-preserved c =
-    let taking : TakesText (bytes_at c.args.src.now c.args.tape.now c.loop-p.p) c.loop-p.left c.take_at-start.new.left c.take_at-start.result = rw c.view_at-v.ensures at c.take_at-start.ensures in
-    let taken : Took (set_of c.loop-p.left) (bytes_at c.args.src.now c.args.tape.now c.loop-p.p) c.take_at-start.result = took _ _ _ _ (taking).0 c.if-start-first.false in
-    let had : Within (taken).set (set_of c.loop-p.left) = within-read _ _ _ (taken).is (taken).had in
-    let here : Front c.args.src.now c.args.tape.now c.loop-p.p c.args.hi = front c.loop-p.invariant.8.tape c.loop-p-test.true in
-    let kind : head_at c.args.tape.now c.loop-p.p % 4 ≡ 2 = rw c.view_at-v.ensures at c.if-v-ne2.false in
-    let may : Only c.args.n (set_of c.args.times.words) → follows c.args.n (without (set_of c.args.times.words) (set_of c.loop-p.left)) c.loop-p.first (taken).set ≡ true = λ o. left-follow _ _ _ _ _ o c.loop-p.invariant.10 (had) (omega (arith, c.if-start-first.false, (taken).first)) in
+    let taking : TakesText (bytes_at c.args.doc.now.src.now c.args.doc.now.tape.now c.loop-p.p) c.loop-p.left.words c.take_at.new.left.words (Some c.in-Some.start) = rw c.view-v.ensures at c.in-Some.ensures in
+    let taken : Took (set_of c.loop-p.left.words) (bytes_at c.args.doc.now.src.now c.args.doc.now.tape.now c.loop-p.p) c.in-Some.start = took _ _ _ (taking).0 in
+    let had : Within (taken).set (set_of c.loop-p.left.words) = within-read _ _ _ (taken).is (taken).had in
+    let here : Front c.args.doc.now.src.now c.args.doc.now.tape.now c.loop-p.p c.args.hi = front c.loop-p.invariant.8.tape c.loop-p-test.true in
+    let kind : head_at c.args.doc.now.tape.now c.loop-p.p % 4 ≡ 2 = rw c.view-v.ensures at c.if-v-ne2.false in
+    let may : Only c.args.n (set_of c.args.times.words) → follows c.args.n (without (set_of c.args.times.words) (set_of c.loop-p.left.words)) c.loop-p.first (taken).set ≡ true = λ o. left-follow _ _ _ _ _ o c.loop-p.invariant.10 (had) (omega (arith, c.if-start-first.false, (taken).first)) in
     let room : c.loop-p.count < 1000 = omega (arith, c.if-start-first.false, (taken).first, text-first _ _ (taken).is, c.loop-p.invariant.1) in
     let s = here in
     let w = split c.loop-p.invariant.8.tape c.loop-p-test.true in
     let k = taken in
     let e = taking.1 k.set k.is k.had in
     let i : c.loop-p.count < length c.loop-p.hashes = omega (arith, room, c.loop-p.invariant.2) in
-    rw c.view_at-v.ensures (
+    rw c.view-v.ensures (
       omega (arith, s.forward, c.loop-p.invariant.0),
       omega (arith, c.if-start-first.false, c.loop-p.invariant.1),
       length-set c.loop-p.hashes _ _ ∙ c.loop-p.invariant.2,
-      λ f t o. way-legal (c.loop-p.invariant.3 f t o) c.loop-p-test.true kind k.set k.is (may o) (λ d g a b. sym c.if-not-content_legal.false ∙ (rw c.view_at-v.ensures at c.content_legal.ensures) d g a b) (ap (without (set_of c.args.times.words)) e ∙ more-taken _ _ _ c.loop-p.invariant.10 had) k.first,
-      note-next c.loop-p.hashes c.loop-p.count c.loop-p.invariant.7.tape c.loop-p.invariant.8.tape c.loop-p-test.true kind (c.loop-p.invariant.4 _ c.loop-p.invariant.7.tape) i (rw c.view_at-v.ensures at c.hash-h.ensures),
+      λ f t o. way-legal (c.loop-p.invariant.3 f t o) c.loop-p-test.true kind k.set k.is (may o) (λ d g a b. sym c.if-not-content_legal.false ∙ (rw c.view-v.ensures at c.content_legal.ensures) d g a b) (ap (without (set_of c.args.times.words)) e ∙ more-taken _ _ _ c.loop-p.invariant.10 had) k.first,
+      note-next c.loop-p.hashes c.loop-p.count c.loop-p.invariant.7.tape c.loop-p.invariant.8.tape c.loop-p-test.true kind (c.loop-p.invariant.4 _ c.loop-p.invariant.7.tape) i (rw c.view-v.ensures at c.hash-h.ensures),
       c.set_seen.ensures.1,
       seen_more _ _ _ c.set_seen.ensures.0 c.loop-p.hashes c.loop-p.count i c.loop-p.invariant.6,
       record { forest = _; tape = tape-join c.loop-p.invariant.7.tape w.here },

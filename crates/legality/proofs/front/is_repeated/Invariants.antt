@@ -8,7 +8,7 @@ use Rattle.versions.specs.Hashes.{Notes}
 use Rattle.legality.proofs.front.is_repeated.Given as goal
 
 abbrev pub invariant-loop-p : goal.invariant-loop-p
-invariant-loop-p l = (l.lo ≤ l.p) × ((d k : Forest) → Tape l.src l.tape l.lo l.hi d → Tape l.src l.tape l.a l.e k → Sought l.src l.tape l.p l.hi k d) × Notes l.src l.tape l.p l.hi l.hashes l.j
+invariant-loop-p l = (l.lo ≤ l.p) × ((d k : Forest) → Tape l.doc.src.now l.doc.tape.now l.lo l.hi d → Tape l.doc.src.now l.doc.tape.now l.a l.e k → Sought l.doc.src.now l.doc.tape.now l.p l.hi k d) × Notes l.doc.src.now l.doc.tape.now l.p l.hi l.hashes l.j
 
 abbrev pub decreases-loop-p : goal.decreases-loop-p
 decreases-loop-p l = l.hi - l.p

@@ -1,5 +1,4 @@
 -- `has_keys` meets its contract: what is asked of all key names is asked from the key name j on.
-use Prim.Native.Nat.{◌-◌, ◌≤◌}
 use mathlib.Core.Path.{◌≡◌}
 use Rattle.keys.specs.KeyList.{key_names_at}
 use Rattle.keys.specs.Walks.{OfNodes}
@@ -8,7 +7,4 @@ use Rattle.versions.specs.LegalKeys.{keys_from}
 use Rattle.legality.proofs.legal.has_keys.Given as goal
 
 abbrev pub invariant-loop-j : goal.invariant-loop-j
-invariant-loop-j l = (l.j ≤ l.count) × OfNodes l.text l.table l.n l.place l.src l.tape l.lo l.hi (λ K p f. has_keys (key_names_at K p) f ≡ keys_from K p f l.j)
-
-abbrev pub decreases-loop-j : goal.decreases-loop-j
-decreases-loop-j l = l.count - l.j
+invariant-loop-j l = OfNodes l.keys.text.now l.keys.table.now l.keys.paths l.place l.doc.src.now l.doc.tape.now l.lo l.hi (λ K p f. has_keys (key_names_at K p) f ≡ keys_from K p f l.j)

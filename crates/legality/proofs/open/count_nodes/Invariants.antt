@@ -6,7 +6,4 @@ use Rattle.versions.specs.NodeCount.{tally}
 use Rattle.legality.proofs.open.count_nodes.Given as goal
 
 abbrev pub invariant-loop-i : goal.invariant-loop-i
-invariant-loop-i l = (l.lo ≤ l.i) × (l.i ≤ l.hi) × (l.n ≤ l.i) × (l.n + tally l.src l.tape (l.hi - l.i) l.i ≡ tally l.src l.tape (l.hi - l.lo) l.lo)
-
-abbrev pub decreases-loop-i : goal.decreases-loop-i
-decreases-loop-i l = l.hi - l.i
+invariant-loop-i l = (l.n ≤ l.i) × (l.n + tally l.doc.src.now l.doc.tape.now (l.hi - l.i) l.i ≡ tally l.doc.src.now l.doc.tape.now (l.hi - l.lo) l.lo)

@@ -25,13 +25,13 @@ siblings_legal-requires c =
 pub returns-then-not-siblings_legal : goal.returns-then-not-siblings_legal
 returns-then-not-siblings_legal c K t k x =
     let every : Holds c.args.n c.up_to-all.result.words (always c.args.n) = up-to-holds c.args.n c.up_to-all.ensures in
-    let said : (K : KeyList) → Table c.args.text.now c.args.table.now c.args.paths K → (k : Forest) → Tape c.args.src.now c.args.tape.now 1 c.args.hi k → c.siblings_legal.result ≡ siblings_legal K c.args.n [] (always c.args.n) k = λ K t k x. c.siblings_legal.ensures K [] t (place-root K) k x ∙ ap (λ (z : Times). siblings_legal K c.args.n [] z k) (every).listed-is in
+    let said : (K : KeyList) → Table c.args.keys.now.text.now c.args.keys.now.table.now c.args.keys.now.paths K → (k : Forest) → Tape c.args.doc.now.src.now c.args.doc.now.tape.now 1 c.args.hi k → c.siblings_legal.result ≡ siblings_legal K c.args.n [] (always c.args.n) k = λ K t k x. c.siblings_legal.ensures K [] t (place-root K) k x ∙ ap (λ (z : Times). siblings_legal K c.args.n [] z k) (every).listed-is in
     sym (inside-unlawful K c.args.n k (sym (said K t k x) ∙ c.if-not-siblings_legal.true))
 
 pub all_small-requires : goal.all_small-requires
 all_small-requires c =
     let every : Holds c.args.n c.up_to-all.result.words (always c.args.n) = up-to-holds c.args.n c.up_to-all.ensures in
-    let said : (K : KeyList) → Table c.args.text.now c.args.table.now c.args.paths K → (k : Forest) → Tape c.args.src.now c.args.tape.now 1 c.args.hi k → c.siblings_legal.result ≡ siblings_legal K c.args.n [] (always c.args.n) k = λ K t k x. c.siblings_legal.ensures K [] t (place-root K) k x ∙ ap (λ (z : Times). siblings_legal K c.args.n [] z k) (every).listed-is in
+    let said : (K : KeyList) → Table c.args.keys.now.text.now c.args.keys.now.table.now c.args.keys.now.paths K → (k : Forest) → Tape c.args.doc.now.src.now c.args.doc.now.tape.now 1 c.args.hi k → c.siblings_legal.result ≡ siblings_legal K c.args.n [] (always c.args.n) k = λ K t k x. c.siblings_legal.ensures K [] t (place-root K) k x ∙ ap (λ (z : Times). siblings_legal K c.args.n [] z k) (every).listed-is in
     let T = c.requires.0 in
     let v = c.requires.1 in
     record {
@@ -47,7 +47,7 @@ all_small-requires c =
 pub returns : goal.returns
 returns c K t k x =
     let every : Holds c.args.n c.up_to-all.result.words (always c.args.n) = up-to-holds c.args.n c.up_to-all.ensures in
-    let said : (K : KeyList) → Table c.args.text.now c.args.table.now c.args.paths K → (k : Forest) → Tape c.args.src.now c.args.tape.now 1 c.args.hi k → c.siblings_legal.result ≡ siblings_legal K c.args.n [] (always c.args.n) k = λ K t k x. c.siblings_legal.ensures K [] t (place-root K) k x ∙ ap (λ (z : Times). siblings_legal K c.args.n [] z k) (every).listed-is in
+    let said : (K : KeyList) → Table c.args.keys.now.text.now c.args.keys.now.table.now c.args.keys.now.paths K → (k : Forest) → Tape c.args.doc.now.src.now c.args.doc.now.tape.now 1 c.args.hi k → c.siblings_legal.result ≡ siblings_legal K c.args.n [] (always c.args.n) k = λ K t k x. c.siblings_legal.ensures K [] t (place-root K) k x ∙ ap (λ (z : Times). siblings_legal K c.args.n [] z k) (every).listed-is in
     c.all_small.ensures k x
     ∙ sym (inside-rest K c.args.n k (omega (arith, c.count_nodes.ensures k x, c.if-count_nodes-gt1024.false))
     (sym (said K t k x) ∙ c.if-not-siblings_legal.false))

@@ -11,13 +11,13 @@ spelled-requires c = let g = c.requires.1 in (record { forest = g.forest; tape =
 
 pub returns-then-not-spelled : goal.returns-then-not-spelled
 returns-then-not-spelled c =
-    let told : c.spelled.result ≡ same c.args.src.now (write c.requires.1.forest) = let g = c.requires.1 in c.spelled.ensures true g.forest g.is g.tape in
+    let told : c.spelled.result ≡ same c.args.doc.now.src.now (write c.requires.1.forest) = let g = c.requires.1 in c.spelled.ensures true g.forest g.is g.tape in
     judged-misspelled c.requires.1 told c.if-not-spelled.true
 
-pub returns-then-n-eq0 : goal.returns-then-n-eq0
-returns-then-n-eq0 c = judged-illegal c.requires.1 c.legal_whole-n.ensures c.if-n-eq0.true
+pub returns-in-None : goal.returns-in-None
+returns-in-None c = judged-illegal c.requires.1 c.in-None.ensures
 
-pub returns : goal.returns
-returns c =
-    let told : c.spelled.result ≡ same c.args.src.now (write c.requires.1.forest) = let g = c.requires.1 in c.spelled.ensures true g.forest g.is g.tape in
-    judged-legal c.requires.1 told c.legal_whole-n.ensures c.if-not-spelled.false c.if-n-eq0.false
+pub returns-in-Some : goal.returns-in-Some
+returns-in-Some c =
+    let told : c.spelled.result ≡ same c.args.doc.now.src.now (write c.requires.1.forest) = let g = c.requires.1 in c.spelled.ensures true g.forest g.is g.tape in
+    judged-legal c.requires.1 told c.in-Some.ensures c.if-not-spelled.false

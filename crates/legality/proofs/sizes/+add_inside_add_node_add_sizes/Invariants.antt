@@ -10,13 +10,13 @@ abbrev pub decreases-add_inside : goal.decreases-add_inside
 decreases-add_inside l = 3 * (l.hi - l.lo) + 2
 
 abbrev pub decreases-add_node : goal.decreases-add_node
-decreases-add_node l = 3 * (next_at l.tape.now l.p - l.p)
+decreases-add_node l = 3 * (next_at l.doc.now.tape.now l.p - l.p)
 
 abbrev pub decreases-add_sizes : goal.decreases-add_sizes
 decreases-add_sizes l = 3 * (l.hi - l.lo) + 1
 
 abbrev pub invariant-add_sizes-loop-p : goal.invariant-add_sizes-loop-p
-invariant-add_sizes-loop-p l = (l.lo ≤ l.p) × ((f : Forest) → Tape l.src l.tape l.lo l.hi f → Going l.src l.tape l.lo l.p l.hi l.left l.timed f l.n l.b l.initial.nodes l.nodes l.initial.bytes l.bytes)
+invariant-add_sizes-loop-p l = (l.lo ≤ l.p) × ((f : Forest) → Tape l.doc.src.now l.doc.tape.now l.lo l.hi f → Going l.doc.src.now l.doc.tape.now l.lo l.p l.hi l.left l.timed f l.n l.b l.initial.nodes l.nodes l.initial.bytes l.bytes)
 
 abbrev pub decreases-add_sizes-loop-p : goal.decreases-add_sizes-loop-p
 decreases-add_sizes-loop-p l = l.hi - l.p

@@ -5,46 +5,39 @@ use Rattle.versions.specs.Grown.{run_none, run-next, run_more}
 use Rattle.legality.proofs.sizes.raise_run.Goals as goal
 
 pub loop-v-init : goal.loop-v-init
-loop-v-init c = (omega arith, omega arith, run_none _ _, run_none _ _)
+loop-v-init c = (run_none _ _, run_none _ _)
 
 pub bounds-nodes-v : goal.bounds-nodes-v
-bounds-nodes-v c = omega (arith, c.loop-v.invariant.2.count, c.requires.0.count)
+bounds-nodes-v c = omega (arith, c.loop-v.invariant.0.count, c.requires.0.count)
 
 pub overflow_add-nodes : goal.overflow_add-nodes
-overflow_add-nodes c = omega (arith, run-next _ _ _ c.loop-v.invariant.2 (omega arith) (omega arith), c.requires.0.room c.loop-v.v c.loop-v.invariant.0 (omega arith))
+overflow_add-nodes c = omega (arith, run-next _ _ _ c.loop-v.invariant.0 (omega arith) (omega arith), c.requires.0.room c.loop-v.v c.loop-v.auto.v (omega arith))
 
 pub bounds-nodes-v-in-loop-v : goal.bounds-nodes-v-in-loop-v
-bounds-nodes-v-in-loop-v c = omega (arith, c.loop-v.invariant.2.count, c.requires.0.count)
+bounds-nodes-v-in-loop-v c = omega (arith, c.loop-v.invariant.0.count, c.requires.0.count)
 
 pub bounds-bytes-v : goal.bounds-bytes-v
-bounds-bytes-v c = omega (arith, c.loop-v.invariant.3.count, c.requires.1.count)
+bounds-bytes-v c = omega (arith, c.loop-v.invariant.1.count, c.requires.1.count)
 
 pub overflow_add-bytes : goal.overflow_add-bytes
-overflow_add-bytes c = omega (arith, run-next _ _ _ c.loop-v.invariant.3 (omega arith) (omega arith), c.requires.1.room c.loop-v.v c.loop-v.invariant.0 (omega arith))
+overflow_add-bytes c = omega (arith, run-next _ _ _ c.loop-v.invariant.1 (omega arith) (omega arith), c.requires.1.room c.loop-v.v c.loop-v.auto.v (omega arith))
 
 pub bounds-bytes-v-in-loop-v : goal.bounds-bytes-v-in-loop-v
-bounds-bytes-v-in-loop-v c = omega (arith, c.loop-v.invariant.3.count, c.requires.1.count)
-
-pub overflow_add-v : goal.overflow_add-v
-overflow_add-v c = omega arith
-
-pub loop-v-smaller : goal.loop-v-smaller
-loop-v-smaller c = omega arith
+bounds-bytes-v-in-loop-v c = omega (arith, c.loop-v.invariant.1.count, c.requires.1.count)
 
 pub loop-v-preserved : goal.loop-v-preserved
 loop-v-preserved c = let i = c.loop-v.invariant in
+    let l = c.loop-v.auto.v in
     let p = c.requires in (
-      omega (arith, i.0),
-      omega arith,
-      run_more _ _ _ i.2 p.0.count (omega (arith, i.0)) i.0 (omega arith),
-      run_more _ _ _ i.3 p.1.count (omega (arith, i.0)) i.0 (omega arith),
+      run_more _ _ _ i.0 p.0.count (omega (arith, l)) l (omega arith),
+      run_more _ _ _ i.1 p.1.count (omega (arith, l)) l (omega arith),
     )
 
 pub shape_of-nodes : goal.shape_of-nodes
-shape_of-nodes c = c.loop-v.invariant.2.count
+shape_of-nodes c = c.loop-v.invariant.0.count
 
 pub shape_of-bytes : goal.shape_of-bytes
-shape_of-bytes c = c.loop-v.invariant.3.count
+shape_of-bytes c = c.loop-v.invariant.1.count
 
 pub returns : goal.returns
-returns c = let e : c.loop-v.v ≡ c.args.end = omega arith in (rw e at c.loop-v.invariant.2, rw e at c.loop-v.invariant.3)
+returns c = let e : c.loop-v.v ≡ c.args.end = omega arith in (rw e at c.loop-v.invariant.0, rw e at c.loop-v.invariant.1)

@@ -1,27 +1,27 @@
-use Rattle.keys.specs.Result.{number_of}
-use mathlib.Core.Path.{◌≡◌, sym, ◌∙◌, ap}
-use lib.ListN.{length}
+-- `drop_in` meets its contract: the table is refused, or it is legal and the later of its marks are dropped.
+use Rattle.std.proofs.Common.{◌≡◌, ◌∙◌, sym, ap, length, rules}
+use Rattle.std.proofs.lemmas.Result.{err_from_is_err_and}
+use Rattle.keys.specs.Result.{ok}
 use Rattle.marks.specs.Marks.{held}
 use Rattle.marks.specs.Judging.{lent_of}
-use Rattle.marks.specs.Changing.{changed_by}
-use Rattle.marks.specs.ChangeLaws.{legal-is, illegal-is, dropping-legal, dropping-illegal}
+use Rattle.marks.specs.Changing.{tabled}
+use Rattle.marks.specs.ChangeLaws.{legal-is, dropping-legal, drop-17}
 use Rattle.marks.proofs.change.drop_in.Goals as goal
 
-pub kept_to-table-requires : goal.kept_to-table-requires
-kept_to-table-requires c = let a = c.args in
-    let h : length a.t.held ≡ 32 = c.well_formed.0.1.1.0.1.0.1 in
-    let l = legal-is a.n a.t c.requires h c.in-Marks.u (sym c.in-Marks.is ∙ c.judge.ensures) in
-    l.few
+pub returns-in_err-u : goal.returns-in_err-u
+returns-in_err-u c =
+    let p = err_from_is_err_and c.from_residual.result c.from_residual.ensures.1 in
+    rw (p.1, p.2) (drop-17 _ _ c.in_err-u.ensures _)
 
-pub returns-in-Marks : goal.returns-in-Marks
-returns-in-Marks c = let a = c.args in
-    let h : length a.t.held ≡ 32 = c.well_formed.0.1.1.0.1.0.1 in
-    let l = legal-is a.n a.t c.requires h c.in-Marks.u (sym c.in-Marks.is ∙ c.judge.ensures) in
-    ap (λ (t : _). record { number = 0; table = t }) (c.kept_to-table.ensures (held (lent_of a.t)) l.are l.count) ∙ ap (changed_by a.t) (sym (dropping-legal a.n (lent_of a.t) (held (lent_of a.t)) a.i l.reads))
+pub kept_to-requires : goal.kept_to-requires
+kept_to-requires c =
+    let a = c.args in
+    let h : length a.t.held ≡ 32 = search rules in
+    (legal-is a.n a.t c.requires h c.in_ok-u.u c.in_ok-u.ensures).few
 
-pub returns-in-Illegal : goal.returns-in-Illegal
-unfolding number_of
-returns-in-Illegal c = let a = c.args in
-    let h : length a.t.held ≡ 32 = c.well_formed.0.1.1.0.1.0.1 in
-    let l = illegal-is a.n a.t c.requires h (sym c.in-Illegal.is ∙ c.judge.ensures) in
-    c.refuse.ensures ∙ ap (changed_by a.t) (sym (dropping-illegal a.n (lent_of a.t) a.i l))
+pub returns : goal.returns
+returns c =
+    let a = c.args in
+    let h : length a.t.held ≡ 32 = search rules in
+    let l = legal-is a.n a.t c.requires h c.in_ok-u.u c.in_ok-u.ensures in
+    ap ok (c.kept_to.ensures (held (lent_of a.t)) l.are l.count) ∙ ap tabled (sym (dropping-legal a.n (lent_of a.t) (held (lent_of a.t)) a.i l.reads))

@@ -1,30 +1,26 @@
-use Rattle.keys.specs.Result.{number_of}
-use mathlib.Core.Path.{◌≡◌, sym, ◌∙◌, ap}
-use lib.ListN.{length}
+-- `find_in` meets its contract: the table is refused, or it is legal and the mark is sought in it.
+use Rattle.std.proofs.Common.{◌≡◌, ◌∙◌, sym, ap, length, rules}
+use Rattle.std.proofs.lemmas.Result.{err_from_is_err_and}
 use Rattle.marks.specs.Marks.{held}
 use Rattle.marks.specs.Judging.{lent_of}
-use Rattle.marks.specs.Changing.{found_by}
-use Rattle.marks.specs.ChangeLaws.{legal-is, illegal-is, finding-legal, finding-illegal}
+use Rattle.marks.specs.Changing.{version_in}
+use Rattle.marks.specs.ChangeLaws.{legal-is, finding-legal, find-17}
 use Rattle.marks.proofs.change.find_in.Goals as goal
 
+pub returns-in_err-u : goal.returns-in_err-u
+returns-in_err-u c =
+    let p = err_from_is_err_and c.from_residual.result c.from_residual.ensures.1 in
+    rw (p.1, p.2) (find-17 _ _ c.in_err-u.ensures _)
+
 pub find_among-requires : goal.find_among-requires
-find_among-requires c = let a = c.args in
-    let s = a.name.now in
-    let h : length a.t.held ≡ 32 = c.well_formed.0.1.1.0.1.0.1 in
-    let l = legal-is a.n a.t c.requires h c.in-Marks.u (sym c.in-Marks.is ∙ c.judge.ensures) in
-    l.few
+find_among-requires c =
+    let a = c.args in
+    let h : length a.t.held ≡ 32 = search rules in
+    (legal-is a.n a.t c.requires h c.in_ok-u.u c.in_ok-u.ensures).few
 
-pub returns-in-Marks : goal.returns-in-Marks
-returns-in-Marks c = let a = c.args in
-    let s = a.name.now in
-    let h : length a.t.held ≡ 32 = c.well_formed.0.1.1.0.1.0.1 in
-    let l = legal-is a.n a.t c.requires h c.in-Marks.u (sym c.in-Marks.is ∙ c.judge.ensures) in
-    c.find_among.ensures (held (lent_of a.t)) l.are l.count ∙ ap found_by (sym (finding-legal a.n (lent_of a.t) (held (lent_of a.t)) s l.reads))
-
-pub returns-in-Illegal : goal.returns-in-Illegal
-unfolding number_of
-returns-in-Illegal c = let a = c.args in
-    let s = a.name.now in
-    let h : length a.t.held ≡ 32 = c.well_formed.0.1.1.0.1.0.1 in
-    let l = illegal-is a.n a.t c.requires h (sym c.in-Illegal.is ∙ c.judge.ensures) in
-    ap found_by (sym (finding-illegal a.n (lent_of a.t) s l))
+pub returns : goal.returns
+returns c =
+    let a = c.args in
+    let h : length a.t.held ≡ 32 = search rules in
+    let l = legal-is a.n a.t c.requires h c.in_ok-u.u c.in_ok-u.ensures in
+    c.find_among.ensures (held (lent_of a.t)) l.are l.count ∙ ap version_in (sym (finding-legal a.n (lent_of a.t) (held (lent_of a.t)) a.name.now l.reads))

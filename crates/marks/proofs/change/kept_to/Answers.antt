@@ -8,45 +8,20 @@ use Rattle.marks.proofs.change.kept_to.Goals as goal
 
 pub loop-j-init : goal.loop-j-init
 unfolding blanks
-loop-j-init c = (omega arith, omega arith, λ ks e l. kept-none c.args.i ks)
-
-pub offset_bounds-t-j : goal.offset_bounds-t-j
-offset_bounds-t-j c = omega arith
-
-pub bounds-t-j : goal.bounds-t-j
-bounds-t-j c = omega arith
-
-pub overflow_cast-m : goal.overflow_cast-m
-overflow_cast-m c = omega arith
-
-pub offset_bounds-held-count : goal.offset_bounds-held-count
-offset_bounds-held-count c = omega arith
-
-pub bounds-held-count : goal.bounds-held-count
-bounds-held-count c = omega arith
-
-pub overflow_add-count : goal.overflow_add-count
-overflow_add-count c = omega arith
-
-pub overflow_add-j : goal.overflow_add-j
-overflow_add-j c = omega arith
-
-pub loop-j-smaller : goal.loop-j-smaller
-loop-j-smaller c = omega arith
+loop-j-init c = (omega arith, λ ks e l. kept-none c.args.i ks)
 
 pub loop-j-preserved : goal.loop-j-preserved
 loop-j-preserved c = let a = c.args in
     let at = c.loop-j in
     let h : at.count < 32 = omega (arith, c.requires) in (
-      omega arith,
       elim c.if-m-i.branch [ then-m-i w ↦ omega (arith, w.count-is) | else-m-i w ↦ omega (arith, w.count-is) ],
       λ ks e l.
           let z : at.j < length ks = omega (arith, l) in
           elim c.if-m-i.branch [
-            | then-m-i w ↦ rw (w.held-is, w.count-is) (kept_next a.i ks at.j a.t.held e z at.held at.count (at.invariant.2 ks e l) w.if-m-i.true h)
-            | else-m-i w ↦ rw (w.held-is, w.count-is) (kept-past a.i ks at.j a.t.held e z at.held at.count (at.invariant.2 ks e l) w.if-m-i.false)
+            | then-m-i w ↦ rw (w.held-is, w.count-is) (kept_next a.i ks at.j a.t.held e z at.held at.count (at.invariant.1 ks e l) w.if-m-i.true h)
+            | else-m-i w ↦ rw (w.held-is, w.count-is) (kept-past a.i ks at.j a.t.held e z at.held at.count (at.invariant.1 ks e l) w.if-m-i.false)
           ],
     )
 
 pub returns : goal.returns
-returns c = λ ks e l. kept-all c.args.i c.args.u c.loop-j.j ks c.loop-j.held c.loop-j.count (omega arith) (omega arith) l (c.loop-j.invariant.2 ks e l)
+returns c = λ ks e l. kept-all c.args.i c.args.u c.loop-j.j ks c.loop-j.held c.loop-j.count (omega arith) (omega arith) l (c.loop-j.invariant.1 ks e l)

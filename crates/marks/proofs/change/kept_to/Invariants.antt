@@ -1,4 +1,4 @@
-use Prim.Native.Nat.{◌-◌, ◌≤◌}
+use Prim.Native.Nat.{◌≤◌}
 use mathlib.Core.Path.{◌≡◌}
 use mathlib.Core.List.{List}
 use lib.ListN.{length, take}
@@ -7,7 +7,4 @@ use Rattle.marks.specs.ChangeLaws.{Kept}
 use Rattle.marks.proofs.change.kept_to.Given as goal
 
 abbrev pub invariant-loop-j : goal.invariant-loop-j
-invariant-loop-j l = (l.j ≤ l.u) × (l.count ≤ l.j) × ((ks : List Named) → l.t.held ≡ entries ks → length ks ≡ l.u → Kept (up_to l.i (take l.j ks)) l.held l.count)
-
-abbrev pub decreases-loop-j : goal.decreases-loop-j
-decreases-loop-j l = l.u - l.j
+invariant-loop-j l = (l.count ≤ l.j) × ((ks : List Named) → l.t.held ≡ entries ks → length ks ≡ l.u → Kept (up_to l.i (take l.j ks)) l.held l.count)

@@ -6,6 +6,6 @@ pub returns-then-n-eq32 : goal.returns-then-n-eq32
 unfolding blanks
 returns-then-n-eq32 c = simp (eq-eqb _ 32 c.if-n-eq32.true)
 
-pub returns : goal.returns
+pub returns-else-n-eq32 : goal.returns-else-n-eq32
 unfolding blanks
-returns c = simp (ne_eqb _ 32 c.if-n-eq32.false)
+returns-else-n-eq32 c = simp (ne_eqb _ 32 c.if-n-eq32.false)

@@ -1,61 +1,42 @@
-use native.Mathlib.Omega.{arith}
-use mathlib.Core.Path.{◌≡◌, sym, ◌∙◌}
-use mathlib.Core.List.{map}
-use lib.ListN.{length, take}
+use Rattle.std.proofs.Common.{rules, tests, arith, ◌≡◌, refl, sym, ◌∙◌, length, take, drop, ◌+◌, get_or, length-take-le, get_or-take, true, false}
+use Rattle.std.specs.List.{list_any}
+use Rattle.std.proofs.lemmas.Iterator.{YieldsList-from_slice}
+use Rattle.std.proofs.lemmas.Iterator.Search.{any_from_yields_List}
+use Rattle.std.proofs.lemmas.Slice.{between_is}
+use Rattle.xml.specs.Bytes.{same}
 use Rattle.marks.specs.Marks.{name_of}
-use Rattle.marks.specs.JudgeLaws.{names-length, compared-start, compared-row, compared-next, compared-twice, compared-all, same_at}
+use Rattle.marks.specs.Lent.{past}
+use Rattle.marks.specs.JudgeLaws.{distinct-next, distinct-end}
 use Rattle.marks.proofs.judge.are_distinct.Goals as goal
 
 pub loop-i-init : goal.loop-i-init
-loop-i-init c = (omega arith, omega arith, omega arith, compared-start _)
+loop-i-init c = refl
 
-pub overflow_add-i : goal.overflow_add-i
-overflow_add-i c = omega (arith, c.requires)
-
-pub overflow_add-j : goal.overflow_add-j
-overflow_add-j c = omega (arith, c.requires)
-
-pub loop-i-smaller-then-u-j : goal.loop-i-smaller-then-u-j
-loop-i-smaller-then-u-j c = omega (arith, c.requires)
-
-pub loop-i-preserved-then-u-j : goal.loop-i-preserved-then-u-j
-loop-i-preserved-then-u-j c = let t = c.args.t in
-    let h : length t.held ≡ 32 = c.well_formed.0.1.1.0.1.0.1 in
-    let g = names-length t.held c.args.u (omega (arith, c.requires)) in
-    (omega arith, omega arith, omega (arith, c.requires), compared-row (map name_of (take c.args.u t.held)) c.loop-i.i c.loop-i.j (omega arith) c.loop-i.invariant.3 (omega arith))
-
-pub offset_bounds-t-i : goal.offset_bounds-t-i
-offset_bounds-t-i c = omega (arith, c.requires)
-
-pub bounds-t-i : goal.bounds-t-i
-bounds-t-i c = omega (arith, c.requires)
-
-pub offset_bounds-t-j : goal.offset_bounds-t-j
-offset_bounds-t-j c = omega (arith, c.requires)
-
-pub bounds-t-j : goal.bounds-t-j
-bounds-t-j c = omega (arith, c.requires)
-
-pub returns-then-same_name : goal.returns-then-same_name
-returns-then-same_name c = let t = c.args.t in
-    let h : length t.held ≡ 32 = c.well_formed.0.1.1.0.1.0.1 in
-    let g = names-length t.held c.args.u (omega (arith, c.requires)) in
-    sym (compared-twice (map name_of (take c.args.u t.held)) c.loop-i.i c.loop-i.j (omega arith) c.loop-i.invariant.3 (omega arith) (same_at t.held c.args.u c.loop-i.i c.loop-i.j (omega (arith, c.requires)) (omega arith) (omega arith) ∙ sym c.same_name.ensures ∙ c.if-same_name.true))
-
-pub overflow_add-j-in-loop-i : goal.overflow_add-j-in-loop-i
-overflow_add-j-in-loop-i c = omega (arith, c.requires)
-
-pub loop-i-smaller : goal.loop-i-smaller
-loop-i-smaller c = omega (arith, c.requires)
+pub returns-then-any : goal.returns-then-any
+returns-then-any c = let u = c.args.u in
+    let i = c.loop-i.i in
+    let l = take u c.args.t.held in
+    let h : length c.args.t.held ≡ 32 = search rules in
+    let n : length l ≡ u = length-take-le u c.args.t.held (omega (arith, c.requires)) in
+    let x : get_or l i past ≡ get_or c.args.t.held i past = get_or-take u c.args.t.held i past (omega arith) in
+    let a : c.any.result ≡ list_any (λ m. same (name_of (get_or c.args.t.held i past)) (name_of m)) (drop (i + 1) l) = any_from_yields_List (λ m. same (name_of (get_or c.args.t.held i past)) (name_of m)) _ _ _ c.any.ensures.ran (YieldsList-from_slice _ (c.iter.ensures.rest ∙ between_is c.args.t.held (i + 1) u)) (λ x b q k. search (rules, tests)) in
+    let t : list_any (λ m. same (name_of (get_or l i past)) (name_of m)) (drop (i + 1) l) ≡ true = rw x (sym a ∙ c.if-any.true) in
+    sym (c.loop-i.invariant ∙ distinct-next l i (omega arith) ∙ rw t)
 
 pub loop-i-preserved : goal.loop-i-preserved
-loop-i-preserved c = let t = c.args.t in
-    let h : length t.held ≡ 32 = c.well_formed.0.1.1.0.1.0.1 in
-    let g = names-length t.held c.args.u (omega (arith, c.requires)) in
-    (omega arith, omega arith, omega (arith, c.requires), compared-next (map name_of (take c.args.u t.held)) c.loop-i.i c.loop-i.j (omega arith) c.loop-i.invariant.3 (omega arith) (same_at t.held c.args.u c.loop-i.i c.loop-i.j (omega (arith, c.requires)) (omega arith) (omega arith) ∙ sym c.same_name.ensures ∙ c.if-same_name.false))
+loop-i-preserved c = let u = c.args.u in
+    let i = c.loop-i.i in
+    let l = take u c.args.t.held in
+    let h : length c.args.t.held ≡ 32 = search rules in
+    let n : length l ≡ u = length-take-le u c.args.t.held (omega (arith, c.requires)) in
+    let x : get_or l i past ≡ get_or c.args.t.held i past = get_or-take u c.args.t.held i past (omega arith) in
+    let a : c.any.result ≡ list_any (λ m. same (name_of (get_or c.args.t.held i past)) (name_of m)) (drop (i + 1) l) = any_from_yields_List (λ m. same (name_of (get_or c.args.t.held i past)) (name_of m)) _ _ _ c.any.ensures.ran (YieldsList-from_slice _ (c.iter.ensures.rest ∙ between_is c.args.t.held (i + 1) u)) (λ x b q k. search (rules, tests)) in
+    let t : list_any (λ m. same (name_of (get_or l i past)) (name_of m)) (drop (i + 1) l) ≡ false = rw x (sym a ∙ c.if-any.false) in
+    c.loop-i.invariant ∙ distinct-next l i (omega arith) ∙ rw t
 
 pub returns : goal.returns
-returns c = let t = c.args.t in
-    let h : length t.held ≡ 32 = c.well_formed.0.1.1.0.1.0.1 in
-    let g = names-length t.held c.args.u (omega (arith, c.requires)) in
-    sym (compared-all (map name_of (take c.args.u t.held)) c.loop-i.i c.loop-i.j (omega arith) c.loop-i.invariant.3)
+returns c = let u = c.args.u in
+    let l = take u c.args.t.held in
+    let h : length c.args.t.held ≡ 32 = search rules in
+    let n : length l ≡ u = length-take-le u c.args.t.held (omega (arith, c.requires)) in
+    sym (c.loop-i.invariant ∙ distinct-end l c.loop-i.i (omega arith))

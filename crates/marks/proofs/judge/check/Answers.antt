@@ -1,27 +1,30 @@
--- `check` meets its contract, by what `judge` answers.
-use native.Mathlib.Omega.{arith}
-use Prim.Native.Nat.{ℕ}
-use mathlib.Core.Path.{◌≡◌, refl, sym, ◌∙◌, ap}
-use mathlib.Core.List.{List}
-use lib.ListN.{length}
-use Rattle.xml.specs.Truth.{bool_by}
-use Rattle.keys.specs.Result.{number_of}
-use Rattle.marks.specs.declared.Mark.{Mark}
-use Rattle.marks.specs.declared.judge.Judged.TheVariants.{Marks, Illegal}
-use Rattle.marks.specs.Marks.{is_table, held, marks_in, number}
-use Rattle.marks.specs.Judging.{judged, pick_judged}
+-- `check` meets its contract: what `judge` says, as `marks_in` reads the table.
+use Rattle.std.specs.Prelude.{ℕ, ◌≡◌, refl, List, length, Result as Tried, Ok, Err}
+use Rattle.std.proofs.Common.{sym, ◌∙◌, ap}
+use Rattle.keys.specs.Result.{Result, refused, ok, ◌>>=◌}
+use Rattle.keys.specs.Meant.{meant, number_in}
+use Rattle.keys.specs.declared.refusal.Refusal.{Refusal}
+use Rattle.marks.specs.Marks.{Named, marks_in, number}
+use Rattle.marks.specs.Judging.{lent_of, judged}
+use Rattle.marks.specs.ChangeLaws.{judged-means}
 use Rattle.marks.proofs.judge.check.Goals as goal
 
-legal : (n : ℕ) (ms : List Mark) (u : ℕ) → Marks u ≡ judged n ms → 0 ≡ number (marks_in n ms)
-unfolding marks_in number
-legal n ms u e = bool_by (λ b. is_table n ms ≡ b → 0 ≡ number (marks_in n ms)) (is_table n ms) (λ x _. rw x refl) (λ x _. let y : Marks u ≡ Illegal = e ∙ ap (λ b. pick_judged b (length (held ms))) x in let z : ◌≡◌ {A = ℕ} 0 1 = cc in absurd (omega arith)) refl
+-- the number of what was answered, and of what it is counted from
+of-meant : (r : Tried ℕ Refusal) → number_in r ≡ number (meant r)
+unfolding number
+of-meant (Ok n) = refl
+of-meant (Err w) = refl
 
-illegal : (n : ℕ) (ms : List Mark) → Illegal ≡ judged n ms → 17 ≡ number (marks_in n ms)
-unfolding marks_in number number_of
-illegal n ms e = bool_by (λ b. is_table n ms ≡ b → 17 ≡ number (marks_in n ms)) (is_table n ms) (λ x _. let y : Illegal ≡ Marks (length (held ms)) = e ∙ ap (λ b. pick_judged b (length (held ms))) x in let z : ◌≡◌ {A = ℕ} 0 1 = cc in absurd (omega arith)) (λ x _. rw x refl) refl
+of-counted : (X : Result (List Named)) → number (X >>= (λ ks. ok (length ks))) ≡ number X
+unfolding number
+of-counted (refused w) = refl
+of-counted (ok ks) = refl
 
-pub returns-in-Marks : goal.returns-in-Marks
-returns-in-Marks c = legal _ _ _ (sym c.in-Marks.is ∙ c.judge.ensures)
+checked : (n : ℕ) (t : _) (r : Tried ℕ Refusal) → r ≡ judged n (lent_of t) → number_in r ≡ number (marks_in n (lent_of t))
+checked n t r e = of-meant r ∙ ap (λ x. number (meant x)) e ∙ ap number (judged-means n (lent_of t)) ∙ of-counted (marks_in n (lent_of t))
 
-pub returns-in-Illegal : goal.returns-in-Illegal
-returns-in-Illegal c = illegal _ _ (sym c.in-Illegal.is ∙ c.judge.ensures)
+pub returns-in-Ok : goal.returns-in-Ok
+returns-in-Ok c = ap number_in (sym c.in-Ok.is) ∙ checked c.args.n c.args.t c.judge.result c.judge.ensures
+
+pub returns-in-Err : goal.returns-in-Err
+returns-in-Err c = c.number.ensures ∙ ap number_in (sym c.in-Err.is) ∙ checked c.args.n c.args.t c.judge.result c.judge.ensures

@@ -1,37 +1,16 @@
-use native.Mathlib.Omega.{arith}
-use native.Mathlib.Nat.{zero-add}
-use mathlib.Core.Path.{◌≡◌, refl, sym, ◌∙◌}
-use lib.ListN.{length}
+use Rattle.std.proofs.Common.{rules, tests, arith, ◌≡◌, refl, ◌∙◌, length, take, length-take-le}
+use Rattle.std.specs.List.{position}
+use Rattle.std.proofs.lemmas.Iterator.{YieldsList-from_slice}
+use Rattle.std.proofs.lemmas.Iterator.Search.{position_from_yields_List}
+use Rattle.xml.specs.Bytes.{same}
 use Rattle.marks.specs.Marks.{name_of}
-use Rattle.marks.specs.JudgeLaws.{place_found, place-on, place_none}
+use Rattle.marks.specs.JudgeLaws.{position-placed, place-is}
 use Rattle.marks.proofs.judge.place_of.Goals as goal
 
-pub loop-i-init : goal.loop-i-init
-loop-i-init c = (omega arith, sym (zero-add _))
-
-pub offset_bounds-t-i : goal.offset_bounds-t-i
-offset_bounds-t-i c = omega (arith, c.requires)
-
-pub bounds-t-i : goal.bounds-t-i
-bounds-t-i c = omega (arith, c.requires)
-
-pub returns-then-same_name : goal.returns-then-same_name
-returns-then-same_name c = let a = c.args in
-    let h : length a.t.held ≡ 32 = c.well_formed.0.1.1.0.1.0.1 in
-    place_found (name_of a.m) a.t.held a.u c.loop-i.i h c.requires _ refl (omega arith) c.loop-i.invariant.1 (sym c.same_name.ensures ∙ c.if-same_name.true)
-
-pub overflow_add-i : goal.overflow_add-i
-overflow_add-i c = omega (arith, c.requires)
-
-pub loop-i-smaller : goal.loop-i-smaller
-loop-i-smaller c = omega arith
-
-pub loop-i-preserved : goal.loop-i-preserved
-loop-i-preserved c = let a = c.args in
-    let h : length a.t.held ≡ 32 = c.well_formed.0.1.1.0.1.0.1 in
-    (omega arith, place-on (name_of a.m) a.t.held a.u c.loop-i.i h c.requires _ refl (omega arith) c.loop-i.invariant.1 (sym c.same_name.ensures ∙ c.if-same_name.false))
-
 pub returns : goal.returns
-returns c = let a = c.args in
-    let h : length a.t.held ≡ 32 = c.well_formed.0.1.1.0.1.0.1 in
-    place_none (name_of a.m) a.t.held a.u c.loop-i.i h c.requires (omega arith) (omega arith) c.loop-i.invariant.1
+returns c = let x = name_of c.args.m in
+    let l = take c.args.u c.args.t.held in
+    let h : length c.args.t.held ≡ 32 = search rules in
+    let n : length l ≡ c.args.u = length-take-le c.args.u c.args.t.held (omega (arith, c.requires)) in
+    let p : c.position.result ≡ position (λ e. same x (name_of e)) l = position_from_yields_List (λ e. same x (name_of e)) _ _ _ c.position.ensures.ran (YieldsList-from_slice _ c.iter.ensures.rest) (λ x b q k. search (rules, tests)) in
+    p ∙ position-placed (λ e. same x (name_of e)) l ∙ rw (← place-is x l, n) refl

@@ -1,18 +1,26 @@
--- `marks::lent::set` meets its contract: the number and the entries that stay are those of the table by value (After).
-use Rattle.std.proofs.Common.{◌≡◌, ◌∙◌, rules, length}
-use Rattle.marks.specs.AfterLaws.{set_after}
+-- `marks::lent::set` meets its contract: what is refused leaves the lent entries, and else they are those of the table by value.
+use Rattle.std.proofs.Common.{◌≡◌, ◌∙◌, sym, rules, length}
+use Rattle.std.proofs.lemmas.Result.{err_from_is_err_and}
+use Rattle.marks.specs.AfterLaws.{set-written, set-kept, counted-is}
 use Rattle.marks.proofs.lent.set.Goals as goal
 
-pub scatter-requires : goal.scatter-requires
-scatter-requires c =
+pub returns-in_err-next-clause-set : goal.returns-in_err-next-clause-set
+returns-in_err-next-clause-set g c =
     let a = c.args in
-    let h : length c.set_after-c.result.table.held ≡ 32 = search rules in
-    let f = set_after a.n a.marks.now a.before c.set_after-c.result h a.name.now a.version (rw c.gather-t.ensures at c.set_after-c.ensures) in
-    (f.small, f.within)
+    let p = err_from_is_err_and c.from_residual.result c.from_residual.ensures.1 in
+    let k = set-kept a.marks.now c.in-Ok.n a.name.now a.version (rw c.gather-t.ensures at c.in_err-next.ensures) in
+    counted-is _ c.in-Ok.is (rw p.1 (c.in_err-next.field-0.0, sym k.done_is, p.2), k.left)
 
-pub returns : goal.returns
-returns c =
+pub scatter-requires : goal.scatter-requires
+scatter-requires g c =
     let a = c.args in
-    let h : length c.set_after-c.result.table.held ≡ 32 = search rules in
-    let f = set_after a.n a.marks.now a.before c.set_after-c.result h a.name.now a.version (rw c.gather-t.ensures at c.set_after-c.ensures) in
-    (f.numbered, c.scatter.ensures ∙ f.left)
+    let h : length c.in_ok-next.next.held ≡ 32 = search rules in
+    let k = set-written a.marks.now c.in_ok-next.next c.in-Ok.n a.name.now a.version (rw c.gather-t.ensures at c.in_ok-next.ensures) h in
+    (k.small, k.within)
+
+pub returns-clause-set : goal.returns-clause-set
+returns-clause-set g c =
+    let a = c.args in
+    let h : length c.in_ok-next.next.held ≡ 32 = search rules in
+    let k = set-written a.marks.now c.in_ok-next.next c.in-Ok.n a.name.now a.version (rw c.gather-t.ensures at c.in_ok-next.ensures) h in
+    counted-is _ c.in-Ok.is (sym k.done_is, c.scatter.ensures ∙ k.left)

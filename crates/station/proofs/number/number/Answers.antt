@@ -1,27 +1,24 @@
 -- Each turn of the loop takes one digit, and its ends are those of the definition.
-use Rattle.std.proofs.Common.{rules, arith, ◌+◌, ◌*◌, ◌≤◌, ◌<◌, min, drop, sym, ◌∙◌, ap, subst}
+use Rattle.std.proofs.Common.{rules, ◌≡◌, None, sym, ◌∙◌, ap, drop, ◌+◌}
 use Rattle.station.specs.Number.{number_from, number-empty, number-start, number-end, number-stop, number_step}
 use Rattle.station.proofs.number.number.Goals as goal
 
-pub returns-then-word-eq0 : goal.returns-then-word-eq0
-returns-then-word-eq0 c = number-empty c.args.word.now c.if-word-eq0.true
+pub returns-then-is_empty : goal.returns-then-is_empty
+returns-then-is_empty c = number-empty c.args.word.now (search rules)
 
-pub loop-i-init : goal.loop-i-init
-loop-i-init c = (search rules, search rules, number-start c.args.word.now c.if-word-eq0.false)
+pub loop-b-init : goal.loop-b-init
+loop-b-init c = (search rules, number-start c.args.word.now (search rules))
 
-pub returns-then-d-gt9 : goal.returns-then-d-gt9
-returns-then-d-gt9 c =
-    sym (number-stop c.args.word.now c.loop-i.value c.loop-i.i (search rules) (subst (λ d. 9 < d) c.digit-d.ensures.0 c.if-d-gt9.true)) ∙ c.loop-i.invariant.2
+pub returns-in_err-digit : goal.returns-in_err-digit
+returns-in_err-digit c =
+    let here : c.from_residual.result ≡ None = search rules in
+    here ∙ sym (number-stop c.args.word.now c.loop-b.value c.loop-b.b-index (search rules) (search rules)) ∙ c.loop-b.invariant.1
 
-pub loop-i-preserved : goal.loop-i-preserved
-loop-i-preserved c = (
+pub loop-b-preserved : goal.loop-b-preserved
+loop-b-preserved c = (
   search rules,
-  omega (arith, c.least-value.ensures),
-  (ap (λ k. number_from k (drop (c.loop-i.i + 1) c.args.word.now))
-      (c.least-value.ensures ∙ ap (λ d. min (c.loop-i.value * 10 + d) 1000) c.digit-d.ensures.0)
-      ∙ sym (number_step c.args.word.now c.loop-i.value c.loop-i.i (search rules) (subst (λ d. d ≤ 9) c.digit-d.ensures.0 c.if-d-gt9.false)))
-      ∙ c.loop-i.invariant.2,
+  (ap (λ k. number_from k (drop (c.loop-b.b-index + 1) c.args.word.now)) (search rules) ∙ sym (number_step c.args.word.now c.loop-b.value c.loop-b.b-index c.in_ok-digit.field-0 (search rules) (search rules))) ∙ c.loop-b.invariant.1,
 )
 
 pub returns : goal.returns
-returns c = sym (number-end c.args.word.now c.loop-i.value c.loop-i.i (search rules)) ∙ c.loop-i.invariant.2
+returns c = sym (number-end c.args.word.now c.loop-b.value c.loop-b.b-index (search rules)) ∙ c.loop-b.invariant.1

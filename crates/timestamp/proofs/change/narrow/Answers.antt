@@ -9,14 +9,5 @@ loop-lo-init c = bracket-all c.args.v c.requires
 pub overflow_add-lo : goal.overflow_add-lo
 overflow_add-lo c = omega (arith, bracket-in c.loop-lo.invariant)
 
-pub halve-part-requires : goal.halve-part-requires
-halve-part-requires c = (c.loop-lo.invariant, omega arith)
-
-pub loop-lo-smaller : goal.loop-lo-smaller
-loop-lo-smaller c = c.halve-part.ensures.1
-
-pub loop-lo-preserved : goal.loop-lo-preserved
-loop-lo-preserved c = c.halve-part.ensures.0
-
 pub returns : goal.returns
 returns c = bracket-end c.loop-lo.invariant (omega arith)

@@ -8,7 +8,7 @@ use Rattle.timestamp.specs.Reading.{st, steps, close_in}
 use Rattle.timestamp.proofs.text.parse_into.Given as goal
 
 abbrev pub invariant-loop-run : goal.invariant-loop-run
-invariant-loop-run l = (l.at ≤ length l.text) × (length l.words ≡ 16) × (close_in (steps (st (set_of l.words) l.p 0 0) (drop l.at l.text)) ≡ close_in (steps (st empty_set 0 0 0) l.text))
+invariant-loop-run l = (l.at ≤ length l.text) × (length l.set.words ≡ 16) × (close_in (steps (st (set_of l.set.words) l.p 0 0) (drop l.at l.text)) ≡ close_in (steps (st empty_set 0 0 0) l.text))
 
 abbrev pub decreases-loop-run : goal.decreases-loop-run
 decreases-loop-run l = length l.text - l.at

@@ -14,14 +14,14 @@ abbrev pub decreases-back_inside : goal.decreases-back_inside
 decreases-back_inside l = 3 * (l.hi - l.lo) + 2
 
 abbrev pub decreases-back_node : goal.decreases-back_node
-decreases-back_node l = 3 * (next_at l.tape.now l.p - l.p)
+decreases-back_node l = 3 * (next_at l.doc.now.tape.now l.p - l.p)
 
 abbrev pub decreases-write_back : goal.decreases-write_back
 decreases-write_back l = 3 * (l.hi - l.lo) + 1
 
 abbrev pub invariant-write_back-loop-p : goal.invariant-write_back-loop-p
-invariant-write_back-loop-p l = let w = back_text l.i (times_in l.i (cut_text l.src l.a l.around.to l.around.tail l.i)) in
-    (l.lo ≤ l.p) × Timely l.i l.src l.tape l.p l.hi × (l.to + 163840 * (l.hi - l.p) ≤ l.at + 163840 * (l.hi - l.lo)) × ((f : Forest) → Tape l.src l.tape l.lo l.hi f → Going w l.src l.tape l.p l.hi (w f) l.initial.out l.at l.to l.out)
+invariant-write_back-loop-p l = let w = back_text l.i (times_in l.i (cut_text l.doc.src.now l.a l.around.to l.around.tail l.i)) in
+    (l.lo ≤ l.p) × Timely l.i l.doc.src.now l.doc.tape.now l.p l.hi × (l.to + 163840 * (l.hi - l.p) ≤ l.at + 163840 * (l.hi - l.lo)) × ((f : Forest) → Tape l.doc.src.now l.doc.tape.now l.lo l.hi f → Going w l.doc.src.now l.doc.tape.now l.p l.hi (w f) l.initial.out l.at l.to l.out)
 
 abbrev pub decreases-write_back-loop-p : goal.decreases-write_back-loop-p
 decreases-write_back-loop-p l = l.hi - l.p

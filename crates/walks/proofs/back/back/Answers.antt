@@ -16,56 +16,56 @@ use Rattle.versions.specs.BackText.{back-length}
 use Rattle.walks.specs.Trimmed.{cut_text, Trimmed, trimmed-short, trimmed-room, cut-trimmed, cut-times, whole_back}
 use Rattle.walks.proofs.back.back.Goals as goal
 
-pub view_at-v-requires : goal.view_at-v-requires
-view_at-v-requires c =
-    let first : Front c.args.src.now c.args.tape.now 0 c.args.hi = front c.requires.3.tape c.requires.0 in
+pub view-v-requires : goal.view-v-requires
+view-v-requires c =
+    let first : Front c.args.doc.now.src.now c.args.doc.now.tape.now 0 c.args.hi = front c.requires.3.tape c.requires.0 in
     first.held
 
 pub slice_bounds-cut_at-count : goal.slice_bounds-cut_at-count
-slice_bounds-cut_at-count c = rw c.view_at-v.ensures (omega arith)
+slice_bounds-cut_at-count c = rw c.view-v.ensures (omega arith)
 
 pub slice_bounds-cut_at-start : goal.slice_bounds-cut_at-start
-slice_bounds-cut_at-start c = rw c.view_at-v.ensures (omega arith)
+slice_bounds-cut_at-start c = rw c.view-v.ensures (omega arith)
 
 pub slice_bounds-cut_at-end : goal.slice_bounds-cut_at-end
 slice_bounds-cut_at-end c =
-    let first : Front c.args.src.now c.args.tape.now 0 c.args.hi = front c.requires.3.tape c.requires.0 in
-    rw c.view_at-v.ensures (omega (arith, first.within))
+    let first : Front c.args.doc.now.src.now c.args.doc.now.tape.now 0 c.args.hi = front c.requires.3.tape c.requires.0 in
+    rw c.view-v.ensures (omega (arith, first.within))
 
 pub cut_at-cut-requires : goal.cut_at-cut-requires
 cut_at-cut-requires c =
-    let outer-set : IsSet (bytes_at c.args.src.now c.args.tape.now 0) = let e = c.requires.1 in timely-set (subst (λ (q : ℕ). Timely c.args.i c.args.src.now c.args.tape.now 0 q) (sym e) c.requires.3) (rw e c.requires.0) c.requires.2 in
-    rw (c.view_at-v.ensures, node-part c.args.src.now c.args.tape.now 0) outer-set
+    let outer-set : IsSet (bytes_at c.args.doc.now.src.now c.args.doc.now.tape.now 0) = let e = c.requires.1 in timely-set (subst (λ (q : ℕ). Timely c.args.i c.args.doc.now.src.now c.args.doc.now.tape.now 0 q) (sym e) c.requires.3) (rw e c.requires.0) c.requires.2 in
+    rw (c.view-v.ensures, node-part c.args.doc.now.src.now c.args.doc.now.tape.now 0) outer-set
 
 pub put_changed-inside-requires : goal.put_changed-inside-requires
 put_changed-inside-requires c =
     let low : c.args.i ≤ 999 = omega (arith, c.requires.3.reach, c.requires.3.small) in
-    let changed : Changes (bytes_at c.args.src.now c.args.tape.now 0) (cut_at c.args.i) c.args.i c.cut_at-cut.result.to c.cut_at-cut.result.tail = rw (c.view_at-v.ensures, node-part c.args.src.now c.args.tape.now 0) at c.cut_at-cut.ensures in
-    let first : Front c.args.src.now c.args.tape.now 0 c.args.hi = front c.requires.3.tape c.requires.0 in
-    let outer-set : IsSet (bytes_at c.args.src.now c.args.tape.now 0) = let e = c.requires.1 in timely-set (subst (λ (q : ℕ). Timely c.args.i c.args.src.now c.args.tape.now 0 q) (sym e) c.requires.3) (rw e c.requires.0) c.requires.2 in
-    let trim : Trimmed c.args.i c.args.src.now (start_in (head_at c.args.tape.now 0)) c.cut_at-cut.result.to c.cut_at-cut.result.tail = cut-trimmed c.args.i c.args.src.now (start_in (head_at c.args.tape.now 0)) (end_in (head_at c.args.tape.now 0)) c.cut_at-cut.result.to c.cut_at-cut.result.tail (omega arith) (first).within (outer-set) (changed) in
+    let changed : Changes (bytes_at c.args.doc.now.src.now c.args.doc.now.tape.now 0) (cut_at c.args.i) c.args.i c.cut_at-cut.result.to c.cut_at-cut.result.tail = rw (c.view-v.ensures, node-part c.args.doc.now.src.now c.args.doc.now.tape.now 0) at c.cut_at-cut.ensures in
+    let first : Front c.args.doc.now.src.now c.args.doc.now.tape.now 0 c.args.hi = front c.requires.3.tape c.requires.0 in
+    let outer-set : IsSet (bytes_at c.args.doc.now.src.now c.args.doc.now.tape.now 0) = let e = c.requires.1 in timely-set (subst (λ (q : ℕ). Timely c.args.i c.args.doc.now.src.now c.args.doc.now.tape.now 0 q) (sym e) c.requires.3) (rw e c.requires.0) c.requires.2 in
+    let trim : Trimmed c.args.i c.args.doc.now.src.now (start_in (head_at c.args.doc.now.tape.now 0)) c.cut_at-cut.result.to c.cut_at-cut.result.tail = cut-trimmed c.args.i c.args.doc.now.src.now (start_in (head_at c.args.doc.now.tape.now 0)) (end_in (head_at c.args.doc.now.tape.now 0)) c.cut_at-cut.result.to c.cut_at-cut.result.tail (omega arith) (first).within (outer-set) (changed) in
     let x = trim in
-    rw c.view_at-v.ensures (x.inside, trimmed-short x, x.known, c.requires.4, low, omega (arith, c.requires.6))
+    rw c.view-v.ensures (x.inside, trimmed-short x, c.requires.4, low, omega (arith, c.requires.6))
 
 pub write_back-close-requires : goal.write_back-close-requires
 write_back-close-requires c =
-    let changed : Changes (bytes_at c.args.src.now c.args.tape.now 0) (cut_at c.args.i) c.args.i c.cut_at-cut.result.to c.cut_at-cut.result.tail = rw (c.view_at-v.ensures, node-part c.args.src.now c.args.tape.now 0) at c.cut_at-cut.ensures in
-    let first : Front c.args.src.now c.args.tape.now 0 c.args.hi = front c.requires.3.tape c.requires.0 in
-    let outer-set : IsSet (bytes_at c.args.src.now c.args.tape.now 0) = let e = c.requires.1 in timely-set (subst (λ (q : ℕ). Timely c.args.i c.args.src.now c.args.tape.now 0 q) (sym e) c.requires.3) (rw e c.requires.0) c.requires.2 in
-    let trim : Trimmed c.args.i c.args.src.now (start_in (head_at c.args.tape.now 0)) c.cut_at-cut.result.to c.cut_at-cut.result.tail = cut-trimmed c.args.i c.args.src.now (start_in (head_at c.args.tape.now 0)) (end_in (head_at c.args.tape.now 0)) c.cut_at-cut.result.to c.cut_at-cut.result.tail (omega arith) (first).within (outer-set) (changed) in
-    let v = c.view_at-v.ensures in
+    let changed : Changes (bytes_at c.args.doc.now.src.now c.args.doc.now.tape.now 0) (cut_at c.args.i) c.args.i c.cut_at-cut.result.to c.cut_at-cut.result.tail = rw (c.view-v.ensures, node-part c.args.doc.now.src.now c.args.doc.now.tape.now 0) at c.cut_at-cut.ensures in
+    let first : Front c.args.doc.now.src.now c.args.doc.now.tape.now 0 c.args.hi = front c.requires.3.tape c.requires.0 in
+    let outer-set : IsSet (bytes_at c.args.doc.now.src.now c.args.doc.now.tape.now 0) = let e = c.requires.1 in timely-set (subst (λ (q : ℕ). Timely c.args.i c.args.doc.now.src.now c.args.doc.now.tape.now 0 q) (sym e) c.requires.3) (rw e c.requires.0) c.requires.2 in
+    let trim : Trimmed c.args.i c.args.doc.now.src.now (start_in (head_at c.args.doc.now.tape.now 0)) c.cut_at-cut.result.to c.cut_at-cut.result.tail = cut-trimmed c.args.i c.args.doc.now.src.now (start_in (head_at c.args.doc.now.tape.now 0)) (end_in (head_at c.args.doc.now.tape.now 0)) c.cut_at-cut.result.to c.cut_at-cut.result.tail (omega arith) (first).within (outer-set) (changed) in
+    let v = c.view-v.ensures in
     let q = c.requires in
     let o = trimmed-room trim (rw v at c.put_changed-inside.ensures) in
     rw v (timely-whole q.3 q.0 q.1 q.2, q.4, trim, omega (arith, q.0, q.6, o))
 
 pub put_word-requires : goal.put_word-requires
 put_word-requires c =
-    let inner : Times = times_in c.args.i (cut_text c.args.src.now (start_in (head_at c.args.tape.now 0)) c.cut_at-cut.result.to c.cut_at-cut.result.tail c.args.i) in
-    let changed : Changes (bytes_at c.args.src.now c.args.tape.now 0) (cut_at c.args.i) c.args.i c.cut_at-cut.result.to c.cut_at-cut.result.tail = rw (c.view_at-v.ensures, node-part c.args.src.now c.args.tape.now 0) at c.cut_at-cut.ensures in
-    let first : Front c.args.src.now c.args.tape.now 0 c.args.hi = front c.requires.3.tape c.requires.0 in
-    let outer-set : IsSet (bytes_at c.args.src.now c.args.tape.now 0) = let e = c.requires.1 in timely-set (subst (λ (q : ℕ). Timely c.args.i c.args.src.now c.args.tape.now 0 q) (sym e) c.requires.3) (rw e c.requires.0) c.requires.2 in
-    let trim : Trimmed c.args.i c.args.src.now (start_in (head_at c.args.tape.now 0)) c.cut_at-cut.result.to c.cut_at-cut.result.tail = cut-trimmed c.args.i c.args.src.now (start_in (head_at c.args.tape.now 0)) (end_in (head_at c.args.tape.now 0)) c.cut_at-cut.result.to c.cut_at-cut.result.tail (omega arith) (first).within (outer-set) (changed) in
-    let v = c.view_at-v.ensures in
+    let inner : Times = times_in c.args.i (cut_text c.args.doc.now.src.now (start_in (head_at c.args.doc.now.tape.now 0)) c.cut_at-cut.result.to c.cut_at-cut.result.tail c.args.i) in
+    let changed : Changes (bytes_at c.args.doc.now.src.now c.args.doc.now.tape.now 0) (cut_at c.args.i) c.args.i c.cut_at-cut.result.to c.cut_at-cut.result.tail = rw (c.view-v.ensures, node-part c.args.doc.now.src.now c.args.doc.now.tape.now 0) at c.cut_at-cut.ensures in
+    let first : Front c.args.doc.now.src.now c.args.doc.now.tape.now 0 c.args.hi = front c.requires.3.tape c.requires.0 in
+    let outer-set : IsSet (bytes_at c.args.doc.now.src.now c.args.doc.now.tape.now 0) = let e = c.requires.1 in timely-set (subst (λ (q : ℕ). Timely c.args.i c.args.doc.now.src.now c.args.doc.now.tape.now 0 q) (sym e) c.requires.3) (rw e c.requires.0) c.requires.2 in
+    let trim : Trimmed c.args.i c.args.doc.now.src.now (start_in (head_at c.args.doc.now.tape.now 0)) c.cut_at-cut.result.to c.cut_at-cut.result.tail = cut-trimmed c.args.i c.args.doc.now.src.now (start_in (head_at c.args.doc.now.tape.now 0)) (end_in (head_at c.args.doc.now.tape.now 0)) c.cut_at-cut.result.to c.cut_at-cut.result.tail (omega arith) (first).within (outer-set) (changed) in
+    let v = c.view-v.ensures in
     let q = c.requires in
     let o = trimmed-room trim (rw v at c.put_changed-inside.ensures) in
     let x = timely-whole q.3 q.0 q.1 q.2 in
@@ -76,12 +76,12 @@ pub returns : goal.returns
 unfolding bytes
 returns c =
     let low : c.args.i ≤ 999 = omega (arith, c.requires.3.reach, c.requires.3.small) in
-    let inner : Times = times_in c.args.i (cut_text c.args.src.now (start_in (head_at c.args.tape.now 0)) c.cut_at-cut.result.to c.cut_at-cut.result.tail c.args.i) in
-    let changed : Changes (bytes_at c.args.src.now c.args.tape.now 0) (cut_at c.args.i) c.args.i c.cut_at-cut.result.to c.cut_at-cut.result.tail = rw (c.view_at-v.ensures, node-part c.args.src.now c.args.tape.now 0) at c.cut_at-cut.ensures in
-    let first : Front c.args.src.now c.args.tape.now 0 c.args.hi = front c.requires.3.tape c.requires.0 in
-    let outer-set : IsSet (bytes_at c.args.src.now c.args.tape.now 0) = let e = c.requires.1 in timely-set (subst (λ (q : ℕ). Timely c.args.i c.args.src.now c.args.tape.now 0 q) (sym e) c.requires.3) (rw e c.requires.0) c.requires.2 in
-    let same-times : inner ≡ times_in c.args.i (bytes_at c.args.src.now c.args.tape.now 0) = cut-times c.args.i c.args.src.now (start_in (head_at c.args.tape.now 0)) (end_in (head_at c.args.tape.now 0)) c.cut_at-cut.result.to c.cut_at-cut.result.tail (omega arith) (first).within (outer-set) (changed) (low) in
-    let trim : Trimmed c.args.i c.args.src.now (start_in (head_at c.args.tape.now 0)) c.cut_at-cut.result.to c.cut_at-cut.result.tail = cut-trimmed c.args.i c.args.src.now (start_in (head_at c.args.tape.now 0)) (end_in (head_at c.args.tape.now 0)) c.cut_at-cut.result.to c.cut_at-cut.result.tail (omega arith) (first).within (outer-set) (changed) in
-    let v = c.view_at-v.ensures in
+    let inner : Times = times_in c.args.i (cut_text c.args.doc.now.src.now (start_in (head_at c.args.doc.now.tape.now 0)) c.cut_at-cut.result.to c.cut_at-cut.result.tail c.args.i) in
+    let changed : Changes (bytes_at c.args.doc.now.src.now c.args.doc.now.tape.now 0) (cut_at c.args.i) c.args.i c.cut_at-cut.result.to c.cut_at-cut.result.tail = rw (c.view-v.ensures, node-part c.args.doc.now.src.now c.args.doc.now.tape.now 0) at c.cut_at-cut.ensures in
+    let first : Front c.args.doc.now.src.now c.args.doc.now.tape.now 0 c.args.hi = front c.requires.3.tape c.requires.0 in
+    let outer-set : IsSet (bytes_at c.args.doc.now.src.now c.args.doc.now.tape.now 0) = let e = c.requires.1 in timely-set (subst (λ (q : ℕ). Timely c.args.i c.args.doc.now.src.now c.args.doc.now.tape.now 0 q) (sym e) c.requires.3) (rw e c.requires.0) c.requires.2 in
+    let same-times : inner ≡ times_in c.args.i (bytes_at c.args.doc.now.src.now c.args.doc.now.tape.now 0) = cut-times c.args.i c.args.doc.now.src.now (start_in (head_at c.args.doc.now.tape.now 0)) (end_in (head_at c.args.doc.now.tape.now 0)) c.cut_at-cut.result.to c.cut_at-cut.result.tail (omega arith) (first).within (outer-set) (changed) (low) in
+    let trim : Trimmed c.args.i c.args.doc.now.src.now (start_in (head_at c.args.doc.now.tape.now 0)) c.cut_at-cut.result.to c.cut_at-cut.result.tail = cut-trimmed c.args.i c.args.doc.now.src.now (start_in (head_at c.args.doc.now.tape.now 0)) (end_in (head_at c.args.doc.now.tape.now 0)) c.cut_at-cut.result.to c.cut_at-cut.result.tail (omega arith) (first).within (outer-set) (changed) in
+    let v = c.view-v.ensures in
     let q = c.requires in
     whole_back low q.4 trim (same-times ∙ q.5) q.0 q.1 q.2 (rw v at c.put_changed-inside.ensures) (rw v at c.write_back-close.ensures) c.put_word.ensures

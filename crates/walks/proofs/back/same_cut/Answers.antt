@@ -3,26 +3,17 @@ use Prim.Native.Nat.{◌+◌}
 use native.Mathlib.Omega.{arith}
 use mathlib.Core.Path.{◌≡◌, refl, sym, ◌∙◌}
 use Rattle.xml.specs.CompareLaws.{same-lengths, bytes-more, bytes-other, bytes-over}
-use Rattle.walks.specs.Trimmed.{cut_text, trimmed-short, cut-long, cut-room, cut-byte, same_start}
+use Rattle.walks.specs.Trimmed.{cut_text, trimmed-short, cut-long, cut-room, cut-byte}
 use Rattle.walks.proofs.back.same_cut.Goals as goal
-
-pub put_tail-requires : goal.put_tail-requires
-put_tail-requires c = omega (arith, c.requires.2.known)
 
 pub overflow_add-size : goal.overflow_add-size
 overflow_add-size c = omega (arith, trimmed-short c.requires.2, c.put_tail.ensures.place)
-
-pub put_tail-requires-2 : goal.put_tail-requires-2
-put_tail-requires-2 c = omega (arith, c.requires.3.known)
 
 pub overflow_add-y : goal.overflow_add-y
 overflow_add-y c = omega (arith, trimmed-short c.requires.3, c.put_tail-2.ensures.place)
 
 pub returns-then-size-y : goal.returns-then-size-y
 returns-then-size-y c = sym (same-lengths _ _ (λ e. c.if-size-y.true (cut-long c.requires.2 c.put_tail.ensures ∙ e ∙ sym (cut-long c.requires.3 c.put_tail-2.ensures))))
-
-pub loop-k-init : goal.loop-k-init
-loop-k-init c = let e = cut-long c.requires.2 c.put_tail.ensures in (omega arith, same_start _ _ _ e (c.if-size-y.false ∙ cut-long c.requires.3 c.put_tail-2.ensures))
 
 pub byte_in-requires : goal.byte_in-requires
 byte_in-requires c = let p = c.requires in (p.2.inside, omega (arith, c.loop-k-test.true, cut-room p.1 p.0 p.2 c.put_tail.ensures refl))
@@ -39,14 +30,8 @@ returns-then-byte_in c = let p = c.requires in
     let m = cut-long p.2 c.put_tail.ensures in
     let n = c.if-size-y.false ∙ cut-long p.3 c.put_tail-2.ensures in
     let s = g.x.to + c.put_tail.result in
-    sym (c.loop-k.invariant.1 ∙ bytes-other (cut_text g.src.now g.a g.x.to g.x.tail g.i) k s (cut_text g.src.now g.b g.y.to g.y.tail g.i) k s c.loop-k-test.true (omega (arith, m)) c.loop-k-test.true (omega (arith, n))
+    sym (c.loop-k.invariant ∙ bytes-other (cut_text g.src.now g.a g.x.to g.x.tail g.i) k s (cut_text g.src.now g.b g.y.to g.y.tail g.i) k s c.loop-k-test.true (omega (arith, m)) c.loop-k-test.true (omega (arith, n))
     (λ e. c.if-byte_in.true (c.byte_in.ensures ∙ x ∙ e ∙ sym (c.byte_in-in-loop-k.ensures ∙ y))))
-
-pub overflow_add-k : goal.overflow_add-k
-overflow_add-k c = omega (arith, trimmed-short c.requires.2, c.put_tail.ensures.place, c.loop-k-test.true)
-
-pub loop-k-smaller : goal.loop-k-smaller
-loop-k-smaller c = omega arith
 
 pub loop-k-preserved : goal.loop-k-preserved
 loop-k-preserved c = let p = c.requires in
@@ -56,14 +41,12 @@ loop-k-preserved c = let p = c.requires in
     let y = cut-byte p.1 p.0 p.3 c.put_tail-2.ensures refl k (omega (arith, c.loop-k-test.true, c.if-size-y.false)) in
     let m = cut-long p.2 c.put_tail.ensures in
     let n = c.if-size-y.false ∙ cut-long p.3 c.put_tail-2.ensures in
-    let s = g.x.to + c.put_tail.result in (
-      omega (arith, c.loop-k-test.true),
-      c.loop-k.invariant.1 ∙ bytes-more (cut_text g.src.now g.a g.x.to g.x.tail g.i) k s (cut_text g.src.now g.b g.y.to g.y.tail g.i) k s c.loop-k-test.true (omega (arith, m)) c.loop-k-test.true (omega (arith, n))
-          (sym (c.byte_in.ensures ∙ x) ∙ c.if-byte_in.false ∙ c.byte_in-in-loop-k.ensures ∙ y),
-    )
+    let s = g.x.to + c.put_tail.result in
+    c.loop-k.invariant ∙ bytes-more (cut_text g.src.now g.a g.x.to g.x.tail g.i) k s (cut_text g.src.now g.b g.y.to g.y.tail g.i) k s c.loop-k-test.true (omega (arith, m)) c.loop-k-test.true (omega (arith, n))
+    (sym (c.byte_in.ensures ∙ x) ∙ c.if-byte_in.false ∙ c.byte_in-in-loop-k.ensures ∙ y)
 
 pub returns : goal.returns
 returns c = let g = c.args in
     let s = g.x.to + c.put_tail.result in
-    let z : c.loop-k.k ≡ s = omega (arith, c.loop-k.invariant.0, c.loop-k-test.false) in
-    sym (c.loop-k.invariant.1 ∙ rw z (bytes-over (cut_text g.src.now g.a g.x.to g.x.tail g.i) s (cut_text g.src.now g.b g.y.to g.y.tail g.i) s))
+    let z : c.loop-k.k ≡ s = omega (arith, c.loop-k-test.false) in
+    sym (c.loop-k.invariant ∙ rw z (bytes-over (cut_text g.src.now g.a g.x.to g.x.tail g.i) s (cut_text g.src.now g.b g.y.to g.y.tail g.i) s))

@@ -1,5 +1,4 @@
 -- `walks::back::same_cut` meets its contract: the texts are the same where what is left of them is.
-use Prim.Native.Nat.{◌-◌, ◌≤◌}
 use mathlib.Core.Path.{◌≡◌}
 use lib.Seq.{slice}
 use Rattle.xml.specs.Bytes.{same}
@@ -7,8 +6,5 @@ use Rattle.walks.specs.Trimmed.{cut_text}
 use Rattle.walks.proofs.back.same_cut.Given as goal
 
 abbrev pub invariant-loop-k : goal.invariant-loop-k
-invariant-loop-k l = (l.k ≤ l.size) × (same (cut_text l.src l.a l.x.to l.x.tail l.i) (cut_text l.src l.b l.y.to l.y.tail l.i)
+invariant-loop-k l = (same (cut_text l.src l.a l.x.to l.x.tail l.i) (cut_text l.src l.b l.y.to l.y.tail l.i)
     ≡ same (slice l.k l.size (cut_text l.src l.a l.x.to l.x.tail l.i)) (slice l.k l.size (cut_text l.src l.b l.y.to l.y.tail l.i)))
-
-abbrev pub decreases-loop-k : goal.decreases-loop-k
-decreases-loop-k l = l.size - l.k

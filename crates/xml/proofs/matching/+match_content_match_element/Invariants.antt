@@ -11,10 +11,10 @@ abbrev pub decreases-match_content : goal.decreases-match_content
 decreases-match_content l = 2 * (l.hi - l.lo) + 1
 
 abbrev pub decreases-match_element : goal.decreases-match_element
-decreases-match_element l = 2 * (next_at l.tape.now l.p - l.p)
+decreases-match_element l = 2 * (next_at l.doc.now.tape.now l.p - l.p)
 
 abbrev pub invariant-match_content-loop-p : goal.invariant-match_content-loop-p
-invariant-match_content-loop-p l = (l.lo ≤ l.p) × (l.to ≤ length l.src + 1) × ((f : Forest) → Tape l.src l.tape l.lo l.hi f → Due l.src l.tape l.p l.hi (write f) l.at l.to)
+invariant-match_content-loop-p l = (l.lo ≤ l.p) × (l.to ≤ length l.doc.src.now + 1) × ((f : Forest) → Tape l.doc.src.now l.doc.tape.now l.lo l.hi f → Due l.doc.src.now l.doc.tape.now l.p l.hi (write f) l.at l.to)
 
 abbrev pub decreases-match_content-loop-p : goal.decreases-match_content-loop-p
 decreases-match_content-loop-p l = l.hi - l.p

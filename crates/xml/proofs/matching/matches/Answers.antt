@@ -8,4 +8,4 @@ use Rattle.xml.specs.MatchingLaws.{match-same}
 use Rattle.xml.proofs.matching.matches.Goals as goal
 
 pub returns : goal.returns
-returns c f h = let s = c.args.src.now in ap (λ (n : ℕ). eqb n (length s)) (c.match_content.ensures f h) ∙ match-same s (write f)
+returns c f h = let s = c.args.doc.now.src.now in ap (λ (n : ℕ). eqb n (length s)) (c.match_content.ensures f h) ∙ match-same s (write f)

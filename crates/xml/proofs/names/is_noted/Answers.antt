@@ -1,11 +1,11 @@
 -- `xml::names::is_noted` meets its contract: a name that is noted is the first that does not come before it. Assumes nothing.
-use Prim.Native.Nat.{◌+◌}
+use Prim.Native.Nat.{◌+◌, ◌/◌, ◌%◌}
 use mathlib.Core.Path.{ap, sym, ◌∙◌}
 use native.Mathlib.Omega.{arith}
-use lib.Seq.{take-length}
-use Rattle.xml.specs.Bytes.{same}
-use Rattle.xml.specs.NameCells.{name_at}
+use lib.ListN.{get_or}
+use Rattle.xml.specs.Bytes.{Bytes, same}
 use Rattle.xml.specs.NameCellLaws.{not_noted, noted-as}
+use Rattle.xml.proofs.Tags.{part-is}
 use Rattle.xml.proofs.names.is_noted.Goals as goal
 
 pub returns-then-i-k : goal.returns-then-i-k
@@ -17,12 +17,12 @@ overflow_cast-start c = omega (arith, c.shared_slice_known-4-1.given (c.args.bas
 pub overflow_add-end : goal.overflow_add-end
 overflow_add-end c = omega (arith, c.shared_slice_known-4-1.given (c.args.base + c.names_before-i.result))
 
-pub same_bytes-requires : goal.same_bytes-requires
-same_bytes-requires c = let t = c.requires.names.in-text c.names_before-i.result (omega (arith, c.names_before-i.ensures.high, c.if-i-k.false)) in
-    record { le₁ = omega arith; in₁ = t.within; le₂ = omega arith; in₂ = omega arith }
+pub slice_bounds-same_bytes-end : goal.slice_bounds-same_bytes-end
+slice_bounds-same_bytes-end c = (c.requires.names.in-text c.names_before-i.result (omega (arith, c.names_before-i.ensures.high, c.if-i-k.false))).within
 
 pub returns : goal.returns
 returns c = λ used n.
     let a = c.args in
-    c.same_bytes.ensures ∙ ap (same (name_at a.src.now a.cells.now a.base c.names_before-i.result)) (take-length a.name.now)
+    let cell = get_or a.cells.now (a.base + c.names_before-i.result) 0 in
+    c.same_bytes.ensures ∙ ap (λ (x : Bytes). same x a.name.now) (part-is (cell / 64) (cell / 64 + cell % 64) a.src.now (omega arith))
     ∙ noted-as n c.names_before-i.ensures (omega (arith, c.names_before-i.ensures.high, c.if-i-k.false))

@@ -6,8 +6,8 @@ use lib.ListN.{length}
 use Rattle.xml.specs.State.{Reading, Untouched}
 use Rattle.xml.proofs.reader.read.Given as goal
 
-abbrev pub invariant-loop-at : goal.invariant-loop-at
-invariant-loop-at l = (length l.tape ≡ length l.initial.tape) × Reading l.archive l.src l.tape l.at l.count l.top × Untouched l.initial.tape l.tape l.count
+abbrev pub invariant-loop-here : goal.invariant-loop-here
+invariant-loop-here l = (length l.tape ≡ length l.initial.tape) × Reading l.archive l.src l.tape l.here.at l.here.count l.here.top × Untouched l.initial.tape l.tape l.here.count
 
-abbrev pub decreases-loop-at : goal.decreases-loop-at
-decreases-loop-at l = length l.src - l.at
+abbrev pub decreases-loop-here : goal.decreases-loop-here
+decreases-loop-here l = length l.src - l.here.at

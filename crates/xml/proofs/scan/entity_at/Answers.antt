@@ -1,6 +1,7 @@
 -- `xml::scan::entity_at` meets its contract: by the five counts. Assumes nothing.
 use mathlib.Core.Path.{sym, ◌∙◌}
 use lib.ListN.{drop}
+use native.Mathlib.Omega.{arith}
 use Rattle.xml.specs.Bytes.{bytes}
 use Rattle.xml.specs.ScanLaws.{entity-lt, entity-gt, entity-amp, entity-quot, entity-apos, entity-miss}
 use Rattle.xml.proofs.scan.entity_at.Goals as goal
@@ -58,8 +59,8 @@ returns c = entity-miss (drop c.args.at c.args.src.now) _ _ _ _ _ _ _ _ _ _
     c.if-amp-eq4.false
     c.if-quot-eq5.false
     c.if-apos-eq5.false
-    c.larger.ensures
-    c.larger-2.ensures
-    c.larger-3.ensures
-    c.larger-4.ensures
-    c.larger-5.ensures
+    (omega arith)
+    c.max.ensures
+    c.max-2.ensures
+    c.max-3.ensures
+    c.max-4.ensures

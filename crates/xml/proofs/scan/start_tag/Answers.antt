@@ -3,19 +3,20 @@ use mathlib.Core.Path.{subst, sym, ◌∙◌}
 use Prim.Native.Nat.{◌+◌}
 use native.Mathlib.Omega.{arith}
 use lib.ListN.{drop}
+use Rattle.std.proofs.lemmas.Result.{err_from_is_err_and}
 use Rattle.xml.specs.Tokens.{TimesRead}
-use Rattle.xml.specs.declared.Run.TheVariants.{Upto, Stop}
 use Rattle.xml.proofs.Tags.{times-begun, times-here, name_in_lem, none_here, opens-here, other-here, lone-here, slash-here}
 use Rattle.xml.proofs.scan.start_tag.Goals as goal
+use Rattle.std.specs.Prelude.{Ok, Err}
 
 pub times_tag-requires : goal.times_tag-requires
 times_tag-requires c = times-begun c.args.archive c.args.src.now c.args.at (sym c.begins_times.ensures ∙ c.if-begins_times.true)
 
-pub returns-in-Upto : goal.returns-in-Upto
-returns-in-Upto c = times-here c.args.archive c.args.src.now c.args.at (sym c.begins_times.ensures ∙ c.if-begins_times.true) (Upto c.in-Upto.k) (subst (TimesRead (drop (c.args.at + 1) c.args.src.now)) c.in-Upto.is c.times_tag.ensures)
+pub returns-then-begins_times : goal.returns-then-begins_times
+returns-then-begins_times c = times-here c.args.archive c.args.src.now c.args.at (sym c.begins_times.ensures ∙ c.if-begins_times.true) (Ok c.in_ok-times_tag.field-0) (subst (TimesRead (drop (c.args.at + 1) c.args.src.now)) c.in_ok-times_tag.was c.times_tag.ensures)
 
-pub returns-in-Stop : goal.returns-in-Stop
-returns-in-Stop c = times-here c.args.archive c.args.src.now c.args.at (sym c.begins_times.ensures ∙ c.if-begins_times.true) (Stop c.in-Stop.k) (subst (TimesRead (drop (c.args.at + 1) c.args.src.now)) c.in-Stop.is c.times_tag.ensures)
+pub returns-in_err-times_tag : goal.returns-in_err-times_tag
+returns-in_err-times_tag c = let p = err_from_is_err_and c.from_residual.result c.from_residual.ensures.1 in rw (p.1, p.2) (times-here c.args.archive c.args.src.now c.args.at (sym c.begins_times.ensures ∙ c.if-begins_times.true) (Err c.in_err-times_tag.field-0.0) (subst (TimesRead (drop (c.args.at + 1) c.args.src.now)) c.in_err-times_tag.was c.times_tag.ensures))
 
 pub returns-then-n-eq0 : goal.returns-then-n-eq0
 returns-then-n-eq0 c = none_here c.args.archive c.args.src.now c.args.at c.requires c.name_len-n.ensures c.if-n-eq0.true

@@ -12,20 +12,11 @@ use Rattle.xml.proofs.spelling.count_rest.Goals as goal
 pub loop-i-init : goal.loop-i-init
 loop-i-init c = counting-none refl
 
-pub bounds-src-i : goal.bounds-src-i
-bounds-src-i c = omega arith
-
 pub overflow_add-n : goal.overflow_add-n
 overflow_add-n c =
     let told : c.if-src-i.n ≡ one (eqb (get_or c.args.src.now c.loop-i.i 0) c.args.b) = elim c.if-src-i.branch [ then-src-i w ↦ one-yes w.if-src-i.true w.n-is | else-src-i w ↦ one-no w.if-src-i.false w.n-is ] in
     let next : Counting c.args.b c.args.src.now c.args.at (c.loop-i.i + 1) (c.loop-i.n + c.if-src-i.n) = counting-next _ c.loop-i.invariant (omega arith) (told) refl in
     omega (arith, next.most)
-
-pub overflow_add-i : goal.overflow_add-i
-overflow_add-i c = omega arith
-
-pub loop-i-smaller : goal.loop-i-smaller
-loop-i-smaller c = omega arith
 
 pub loop-i-preserved : goal.loop-i-preserved
 loop-i-preserved c =

@@ -1,11 +1,6 @@
 -- `xml::spelling::count_rest` meets its contract: one byte after the other is counted. Assumes nothing.
-use Prim.Native.Nat.{◌-◌}
-use lib.ListN.{length}
 use Rattle.xml.specs.NeatLaws.{Counting}
 use Rattle.xml.proofs.spelling.count_rest.Given as goal
 
 abbrev pub invariant-loop-i : goal.invariant-loop-i
 invariant-loop-i l = Counting l.b l.src l.at l.i l.n
-
-abbrev pub decreases-loop-i : goal.decreases-loop-i
-decreases-loop-i l = length l.src - l.i

@@ -10,23 +10,8 @@ pub loop-i-init : goal.loop-i-init
 unfolding tags_below
 loop-i-init c = (omega arith, omega arith, refl)
 
-pub overflow_mul-i : goal.overflow_mul-i
-overflow_mul-i c = omega arith
-
-pub offset_bounds-tape-i : goal.offset_bounds-tape-i
-offset_bounds-tape-i c = omega arith
-
-pub bounds-tape-i : goal.bounds-tape-i
-bounds-tape-i c = omega arith
-
 pub overflow_add-n : goal.overflow_add-n
 overflow_add-n c = elim c.if-tape-i-eq0.branch [ then-tape-i-eq0 w ↦ omega arith | else-tape-i-eq0 w ↦ omega arith ]
-
-pub overflow_add-i : goal.overflow_add-i
-overflow_add-i c = omega arith
-
-pub loop-i-smaller : goal.loop-i-smaller
-loop-i-smaller c = omega arith
 
 pub loop-i-preserved : goal.loop-i-preserved
 loop-i-preserved c = elim c.if-tape-i-eq0.branch [

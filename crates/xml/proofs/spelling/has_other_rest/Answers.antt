@@ -11,25 +11,10 @@ use Rattle.xml.proofs.spelling.has_other_rest.Goals as goal
 pub loop-i-init : goal.loop-i-init
 loop-i-init c = refl
 
-pub bounds-src-i : goal.bounds-src-i
-bounds-src-i c = omega arith
-
-pub overflow_add-i : goal.overflow_add-i
-overflow_add-i c = omega arith
-
-pub overflow_add-i-in-loop-i : goal.overflow_add-i-in-loop-i
-overflow_add-i-in-loop-i c = omega arith
-
 pub returns-then-is_other : goal.returns-then-is_other
 returns-then-is_other c =
     let told : others (drop c.args.at c.args.src.now) ≡ (c.is_other.result || others (drop (c.loop-i.i + 1) c.args.src.now)) = c.loop-i.invariant ∙ others-next c.args.src.now c.loop-i.i (omega arith) c.is_other.ensures c.byte_at.ensures c.byte_at-in-loop-i.ensures in
     sym (told ∙ ap (λ (x : Bool). x || others (drop (c.loop-i.i + 1) c.args.src.now)) c.if-is_other.true)
-
-pub overflow_add-i-in-loop-i-2 : goal.overflow_add-i-in-loop-i-2
-overflow_add-i-in-loop-i-2 c = omega arith
-
-pub loop-i-smaller : goal.loop-i-smaller
-loop-i-smaller c = omega arith
 
 pub loop-i-preserved : goal.loop-i-preserved
 loop-i-preserved c =

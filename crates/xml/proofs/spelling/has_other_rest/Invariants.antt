@@ -1,12 +1,8 @@
 -- `xml::spelling::has_other_rest` meets its contract: what the rest has is what all have. Assumes nothing.
-use Prim.Native.Nat.{◌-◌}
 use mathlib.Core.Path.{◌≡◌}
-use lib.ListN.{length, drop}
+use lib.ListN.{drop}
 use Rattle.xml.specs.Neat.{others}
 use Rattle.xml.proofs.spelling.has_other_rest.Given as goal
 
 abbrev pub invariant-loop-i : goal.invariant-loop-i
 invariant-loop-i l = others (drop l.at l.src) ≡ others (drop l.i l.src)
-
-abbrev pub decreases-loop-i : goal.decreases-loop-i
-decreases-loop-i l = length l.src - l.i

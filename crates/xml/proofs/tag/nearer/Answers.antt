@@ -1,4 +1,5 @@
 -- `xml::tag::nearer` meets its contract: a law for each return. Assumes nothing.
+use Rattle.std.proofs.lemmas.Slice.{between_is}
 use Prim.Native.Nat.{◌+◌}
 use mathlib.Core.Path.{sym, ◌∙◌}
 use native.Mathlib.Omega.{arith}
@@ -9,22 +10,17 @@ use Rattle.xml.specs.NextPart.{nearer-before, nearer-alone, nearer-this, nearer-
 use Rattle.xml.proofs.tag.nearer.Goals as goal
 
 pub returns-then-not-precedes : goal.returns-then-not-precedes
-returns-then-not-precedes c = let a = c.args in nearer-before a.s.now (slice a.a a.e a.s.now) a.best a.i (slice (a.i + 1) a.equals a.s.now) (sym c.precedes.ensures ∙ c.if-not-precedes.true)
+returns-then-not-precedes c = let a = c.args in nearer-before a.s.now (slice a.a a.e a.s.now) a.best a.i (slice (a.i + 1) a.equals a.s.now) (sym (simp between_is at c.precedes.ensures) ∙ c.if-not-precedes.true)
 
 pub returns-then-best-s : goal.returns-then-best-s
-returns-then-best-s c = let a = c.args in nearer-alone a.s.now (slice a.a a.e a.s.now) a.best a.i (slice (a.i + 1) a.equals a.s.now) (sym c.precedes.ensures ∙ c.if-not-precedes.false) c.if-best-s.true
+returns-then-best-s c = let a = c.args in nearer-alone a.s.now (slice a.a a.e a.s.now) a.best a.i (slice (a.i + 1) a.equals a.s.now) (sym (simp between_is at c.precedes.ensures) ∙ c.if-not-precedes.false) c.if-best-s.true
 
-pub precedes-requires-2 : goal.precedes-requires-2
-precedes-requires-2 c = let a = c.args in
-    record {
-      le₁ = c.requires.2.le₂;
-      in₁ = c.requires.2.in₂;
-      le₂ = omega arith;
-      in₂ = omega (arith, c.until_byte.ensures.0, until-fits 61 (drop (a.best + 1) a.s.now), length-drop (a.best + 1) a.s.now, c.if-best-s.false, c.requires.1);
-    }
+pub slice_bounds-precedes-end-4 : goal.slice_bounds-precedes-end-4
+slice_bounds-precedes-end-4 c = let a = c.args in
+    omega (arith, c.until_byte.ensures.0, until-fits 61 (drop (a.best + 1) a.s.now), length-drop (a.best + 1) a.s.now, c.if-best-s.false, c.requires.1)
 
 pub returns-then-precedes : goal.returns-then-precedes
-returns-then-precedes c = let a = c.args in nearer-this a.s.now (slice a.a a.e a.s.now) a.best a.i (slice (a.i + 1) a.equals a.s.now) c.until_byte.result (sym c.precedes.ensures ∙ c.if-not-precedes.false) c.if-best-s.false c.until_byte.ensures.0 (sym c.precedes-2.ensures ∙ c.if-precedes.true)
+returns-then-precedes c = let a = c.args in nearer-this a.s.now (slice a.a a.e a.s.now) a.best a.i (slice (a.i + 1) a.equals a.s.now) c.until_byte.result (sym (simp between_is at c.precedes.ensures) ∙ c.if-not-precedes.false) c.if-best-s.false c.until_byte.ensures.0 (sym (simp between_is at c.precedes-2.ensures) ∙ c.if-precedes.true)
 
 pub returns : goal.returns
-returns c = let a = c.args in nearer-best a.s.now (slice a.a a.e a.s.now) a.best a.i (slice (a.i + 1) a.equals a.s.now) c.until_byte.result (sym c.precedes.ensures ∙ c.if-not-precedes.false) c.if-best-s.false c.until_byte.ensures.0 (sym c.precedes-2.ensures ∙ c.if-precedes.false)
+returns c = let a = c.args in nearer-best a.s.now (slice a.a a.e a.s.now) a.best a.i (slice (a.i + 1) a.equals a.s.now) c.until_byte.result (sym (simp between_is at c.precedes.ensures) ∙ c.if-not-precedes.false) c.if-best-s.false c.until_byte.ensures.0 (sym (simp between_is at c.precedes-2.ensures) ∙ c.if-precedes.false)

@@ -1,4 +1,5 @@
 -- `xml::tag::tag_nodes` meets its contract: of a `T`, and of any other element. Assumes nothing.
+use lib.Seq.{length-take-le}
 use Prim.Native.Nat.{◌+◌}
 use mathlib.Core.Path.{ap, sym, ◌∙◌}
 use native.Mathlib.Omega.{arith}
@@ -7,8 +8,8 @@ use Rattle.xml.specs.TagPlaces.{tag-start}
 use Rattle.xml.specs.TagSums.{name-part, nodes-T, nodes-other, parts-few}
 use Rattle.xml.proofs.tag.tag_nodes.Goals as goal
 
-pub is_byte-requires : goal.is_byte-requires
-is_byte-requires c = omega (arith, (tag-start c.requires.0).inside, c.name_end.ensures)
+pub slice_bounds-is_byte-end : goal.slice_bounds-is_byte-end
+slice_bounds-is_byte-end c = sym (length-take-le c.name_end.result c.args.s.now (omega (arith, (tag-start c.requires.0).inside, c.name_end.ensures)))
 
 pub returns-then-is_byte : goal.returns-then-is_byte
 unfolding bytes

@@ -3,8 +3,8 @@ use native.Mathlib.Omega.{arith}
 use mathlib.Core.Path.{sym, ◌∙◌}
 use lib.Seq.{length-take-le}
 use Rattle.xml.specs.SignLaws.{sign-here, sign_line, sign-found, found_inside}
-use Rattle.xml.specs.declared.Found.TheVariants.{Hit}
 use Rattle.xml.proofs.text.sign_at.Goals as goal
+use Rattle.std.specs.Prelude.{Ok}
 
 pub returns-then-b-eq13 : goal.returns-then-b-eq13
 returns-then-b-eq13 c = let a = c.args in c.line_end.ensures ∙ sym (sign_line a.src.now a.i a.e c.requires.0 c.requires.1 c.if-b-eq13.true)
@@ -18,14 +18,14 @@ slice_bounds-entity_at-end c = let a = c.args in sym (length-take-le a.e a.src.n
 pub entity_at-requires : goal.entity_at-requires
 entity_at-requires c = let a = c.args in omega (arith, length-take-le a.e a.src.now c.requires.1)
 
-pub overflow_add-result-in-Hit-2 : goal.overflow_add-result-in-Hit-2
-overflow_add-result-in-Hit-2 c = let a = c.args in
-    omega (arith, found_inside a.src.now a.i a.e c.requires.0 c.requires.1 c.in-Hit.n c.in-Hit.c (sym c.entity_at.ensures ∙ c.in-Hit.is))
+pub overflow_add-result-in-Ok-2 : goal.overflow_add-result-in-Ok-2
+overflow_add-result-in-Ok-2 c = let a = c.args in
+    omega (arith, found_inside a.src.now a.i a.e c.requires.0 c.requires.1 c.in-Ok.n c.in-Ok.c (sym c.entity_at.ensures ∙ c.in-Ok.is))
 
-pub returns-in-Hit : goal.returns-in-Hit
-returns-in-Hit c = let a = c.args in
-    sym (sign-found a.src.now a.i a.e c.requires.0 c.requires.1 c.if-b-ne38.false (Hit c.in-Hit.n c.in-Hit.c) (sym c.entity_at.ensures ∙ c.in-Hit.is))
+pub returns-in-Ok : goal.returns-in-Ok
+returns-in-Ok c = let a = c.args in
+    sym (sign-found a.src.now a.i a.e c.requires.0 c.requires.1 c.if-b-ne38.false (Ok (c.in-Ok.n, c.in-Ok.c)) (sym c.entity_at.ensures ∙ c.in-Ok.is))
 
-pub returns-in-Miss : goal.returns-in-Miss
-returns-in-Miss c = let a = c.args in
-    sym (sign-found a.src.now a.i a.e c.requires.0 c.requires.1 c.if-b-ne38.false _ (sym c.entity_at.ensures ∙ c.in-Miss.is))
+pub returns-in-Err : goal.returns-in-Err
+returns-in-Err c = let a = c.args in
+    sym (sign-found a.src.now a.i a.e c.requires.0 c.requires.1 c.if-b-ne38.false _ (sym c.entity_at.ensures ∙ c.in-Err.is))

@@ -10,10 +10,10 @@ abbrev pub decreases-write_content : goal.decreases-write_content
 decreases-write_content l = 2 * (l.hi - l.lo) + 1
 
 abbrev pub decreases-write_element : goal.decreases-write_element
-decreases-write_element l = 2 * (next_at l.tape.now l.p - l.p)
+decreases-write_element l = 2 * (next_at l.doc.now.tape.now l.p - l.p)
 
 abbrev pub invariant-write_content-loop-p : goal.invariant-write_content-loop-p
-invariant-write_content-loop-p l = (l.lo ≤ l.p) × ((f : Forest) → Tape l.src l.tape l.lo l.hi f → Rest l.src l.tape l.p l.hi (write f) l.initial.out l.at l.to l.out)
+invariant-write_content-loop-p l = (l.lo ≤ l.p) × ((f : Forest) → Tape l.doc.src.now l.doc.tape.now l.lo l.hi f → Rest l.doc.src.now l.doc.tape.now l.p l.hi (write f) l.initial.out l.at l.to l.out)
 
 abbrev pub decreases-write_content-loop-p : goal.decreases-write_content-loop-p
 decreases-write_content-loop-p l = l.hi - l.p

@@ -1,7 +1,0 @@
--- `retrieve_short` meets its contract.
-use Rattle.archive.specs.RetrieveLaws.{retrieve-steps}
-use Rattle.archive.specs.Giving.{gives-told}
-use Rattle.firmware.proofs.cells.retrieve_short.Goals as goal
-
-pub returns : goal.returns
-returns c = gives-told _ _ c.args.out.now (retrieve-steps _ _ _ _ _) c.retrieve_in.ensures

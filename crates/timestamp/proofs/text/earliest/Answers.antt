@@ -1,9 +1,0 @@
--- `timestamp::text::earliest` meets its contract.
-use borrow.Author.Tests.{eq-eqb, ne_eqb}
-use Rattle.timestamp.proofs.text.earliest.Goals as goal
-
-pub returns-then-first-eq0 : goal.returns-then-first-eq0
-returns-then-first-eq0 c = rw (eq-eqb c.args.first 0 c.if-first-eq0.true)
-
-pub returns : goal.returns
-returns c = rw (ne_eqb c.args.first 0 c.if-first-eq0.false)
