@@ -18,6 +18,7 @@ use Rattle.model.specs.Orders.{labels}
 use Rattle.keys.specs.KeyList.{Path, KeyList, above}
 use Rattle.keys.specs.Version.{◌▸◌, Label, label}
 use Rattle.keys.specs.Legal.{untimed}
+use Rattle.keys.specs.Ranks.{rank}
 use Rattle.keys.specs.Table.{place_of, Table}
 use Rattle.timestamp.specs.Times.{Times}
 use Rattle.versions.specs.Walk.{first_label, newest, add_content, add_new, add_in}
@@ -48,6 +49,16 @@ pub way-none : {src cells : List ℕ} {lo hi : ℕ} {vsrc vcells : List ℕ} {vl
 unfolding join write nodes
 way-none {f = f} {v = v} h g s x =
     record { rest = f; other = v; tape = h; vtape = g; siblings = s; version = x; made = end; all = refl; count = omega arith; wrote = wrote_none }
+
+-- neither before nor after is the same
+pub order_same : (l : Label) (o : Option Label) → (order_of l o ≡ 2 → ⊥) → (order_of l o ≡ 0 → ⊥) → order_of l o ≡ 1
+order_same l none g h = absurd (h refl)
+order_same l (some j) g h = by (labels.cmp l j) g h
+  where
+    by : (o : Ordering) → (rank o ≡ 2 → ⊥) → (rank o ≡ 0 → ⊥) → rank o ≡ 1
+    by lt g h = absurd (h refl)
+    by eq g h = refl
+    by gt g h = absurd (g refl)
 
 -- above a frontier, and at one
 pub inside-above : (K : KeyList) (n : ℕ) (w : Path) (t : Times) (f v : Forest) → above K w ≡ true → inside K n w t f v ≡ add_in K n w t f v
