@@ -1,6 +1,8 @@
 // Document 01's demonstration: the archive of the record of one station, written after each version.
 #![tactic(auto)]
 
+ghost use Rattle.std.specs.Prelude.{◌≤◌, length, IfSome};
+
 use archive::add::add_version;
 use archive::found::found;
 use files::{read_file, say_refusal, within};
@@ -12,7 +14,9 @@ fn show<'o>(
     name: &str,
     answer: Result<usize, Refusal>,
     out: &'o [u8],
-) -> Option<&'o [u8]> {
+) -> Option<&'o [u8]>
+    ensures { IfSome result (λ bytes. length bytes.now ≤ length out.now) }
+{
     match answer {
         Ok(length) => {
             let n = within(length, out);
@@ -36,6 +40,7 @@ fn receive<'o, F: FnOnce(&[u8], &mut [u8]) -> Result<usize, Refusal>>(
     ask: F,
 ) -> Option<&'o [u8]>
     requires { F.IsAlwaysCallable ask }
+    ensures { IfSome result (λ bytes. length bytes.now ≤ length out.old) }
 {
     let mut version = [0u8; 16385];
     let version = read_file(rt, b"demo: ", name.as_bytes(), &mut version)?;

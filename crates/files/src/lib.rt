@@ -1,7 +1,7 @@
 // What the programs over the archive share: files read and replaced by name, and refusals said in the words of documents 01 and 02.
 #![tactic(auto)]
 
-ghost use Rattle.std.specs.Prelude.{◌≤◌, ◌≡◌, length, IfOk, IfSome};
+ghost use Rattle.std.specs.Prelude.{◌≤◌, ◌<◌, ◌≡◌, length, IfOk, IfSome};
 
 use std::fs::{File, OpenOptions, Permissions};
 use std::io::{Cursor, ErrorKind, Read, Write};
@@ -123,13 +123,27 @@ fn write_whole(mut file: File, bytes: &[u8]) -> io::Result<()> {
     file.sync_all()
 }
 
-// Six letters, drawn by the system, of the bytes that a new file's name may have.
+// The n-th of the bytes that a new file's name may have: `A` to `Z`, `a` to `z`, `0` to `9`.
+fn letter_at(n: u8) -> u8
+    requires { n < 62 }
+    ensures low { 48 ≤ result }
+    ensures high { result ≤ 122 }
+{
+    if n < 26 {
+        return b'A' + n;
+    }
+    if n < 52 {
+        return b'a' + (n - 26);
+    }
+    b'0' + (n - 52)
+}
+
+// Six letters, drawn by the system.
 fn draw_letters(rt: &HostRuntime) -> io::Result<[u8; 6]> {
-    let allowed = b"ABCDEFGHIJKLMNOPQRSTUVWXYZabcdefghijklmnopqrstuvwxyz0123456789";
     let mut letters = [0u8; 6];
     rt.fill_bytes(&mut letters)?;
     for letter in &mut letters {
-        *letter = allowed[*letter as usize % 62];
+        *letter = letter_at(*letter % 62);
     }
     Ok(letters)
 }

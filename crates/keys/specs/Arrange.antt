@@ -90,7 +90,7 @@ module _ {key_text : Bytes} {table : List ℕ} {n : ℕ} {src cells : List ℕ} 
         fits = omega (arith, ordered-size, few-nodes);
       }
 
-  version-ordered : {out left : List ℕ} {m : ℕ} → ContentArranged key_text table n 128 src cells 0 count out 0 (Some m) left
+  pub version-ordered : {out left : List ℕ} {m : ℕ} → ContentArranged key_text table n 128 src cells 0 count out 0 (Some m) left
       → (K : KeyList) (f : Forest) → Table key_text table n K → Tape src cells 0 count f → Ordered K (drop_white K [] f) src left m
   version-ordered {left = left} {m = m} b K f t h =
       let e : g.key_list ≡ K = ok-inj (sym g.tabled.accepted ∙ t.accepted) in
@@ -104,7 +104,7 @@ module _ {key_text : Bytes} {table : List ℕ} {n : ℕ} {src cells : List ℕ} 
         few = omega (arith, few-nodes);
       }))
 
-version-twice : {key_text : Bytes} {table : List ℕ} {n : ℕ} {src cells : List ℕ} {count : ℕ} {out left : List ℕ}
+pub version-twice : {key_text : Bytes} {table : List ℕ} {n : ℕ} {src cells : List ℕ} {count : ℕ} {out left : List ℕ}
     → ContentArranged key_text table n 128 src cells 0 count out 0 None left
     → (K : KeyList) (f : Forest) → Table key_text table n K → Tape src cells 0 count f → doubled K [] (drop_white K [] f) ≡ true
 version-twice {key_text} b K f t h = doubled-drop K (rules-kept key_text K t.accepted) [] f ∙ sym (b.doubled-is K [] t (place-root K) f h)

@@ -157,11 +157,11 @@ inserted {order} {k} {j} {p} e long inside room =
     })
 
 -- ---- the entries from i to k one further
-unfoldable shifted_to : ℕ → ℕ → List ℕ → List ℕ
+unfoldable pub shifted_to : ℕ → ℕ → List ℕ → List ℕ
 shifted_to k i order = take (suc i) order ++ (slice i k order ++ drop (suc k) order)
 
 module _ (order : List ℕ) (k : ℕ) (room : k < length order) where
-  shifted-put : (i v : ℕ) → i ≤ k → set (shifted_to k i order) i v ≡ insert_at k i v order
+  pub shifted-put : (i v : ℕ) → i ≤ k → set (shifted_to k i order) i v ≡ insert_at k i v order
   unfolding shifted_to insert_at
   shifted-put i v l =
       let rest = slice i k order ++ drop (suc k) order in

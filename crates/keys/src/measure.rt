@@ -67,7 +67,7 @@ fn add_tags(name: &[u8], s: Sizes) -> Sizes
 // A run of text in an element at a place is dropped: it is white space above a frontier.
 pub fn is_dropped(keys: &KeyTable, place: usize, run: &[u8]) -> bool
     requires { 2 * keys.now.paths ≤ length keys.now.table.now }
-    ensures { OfPlace keys.now.text.now keys.now.table.now keys.now.paths place (λ K p. result ≡ (above K p && all is_white (unescape 0 run.now))) }
+    ensures { (text : Bytes) → OfPlace text keys.now.table.now keys.now.paths place (λ K p. result ≡ (above K p && all is_white (unescape 0 run.now))) }
 {
     if !keys.is_above(place) {
         return false;

@@ -1,6 +1,7 @@
 // Places of a key list's table: 128 stands above the root, a number below for the path of that number, 129 for a path that is not listed.
 ghost use Rattle.std.specs.Prelude.{◌≡◌, ◌+◌, ◌*◌, ◌<◌, ◌≤◌, length};
 ghost use Rattle.std.proofs.Math.Seq.{slice};
+ghost use Rattle.xml.specs.Bytes.{Bytes};
 ghost use Rattle.keys.specs.KeyList.{above, key_names_at};
 ghost use Rattle.keys.specs.Version.{◌▸◌};
 ghost use Rattle.keys.specs.Table.{place_of, name_end};
@@ -41,7 +42,7 @@ impl KeyTable<'_> {
     // The path at a place is continued by another, or it is above the root.
     pub fn is_above(&self, place: usize) -> bool
         requires { 2 * self.now.paths ≤ length self.now.table.now }
-        ensures { OfPlace self.now.text.now self.now.table.now self.now.paths place (λ K p. result ≡ above K p) }
+        ensures { (text : Bytes) → OfPlace text self.now.table.now self.now.paths place (λ K p. result ≡ above K p) }
     {
         if place == 128 {
             return true;
@@ -55,7 +56,7 @@ impl KeyTable<'_> {
     // How many key names the path at a place has.
     pub fn key_count(&self, place: usize) -> usize
         requires { 2 * self.now.paths ≤ length self.now.table.now }
-        ensures { OfPlace self.now.text.now self.now.table.now self.now.paths place (λ K p. result ≡ length (key_names_at K p)) }
+        ensures { (text : Bytes) → OfPlace text self.now.table.now self.now.paths place (λ K p. result ≡ length (key_names_at K p)) }
     {
         if place >= self.paths {
             return 0;

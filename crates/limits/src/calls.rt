@@ -49,7 +49,9 @@ impl Bench<'_, '_> {
     }
 
     // Founding, with no line; answers the archive.
-    pub fn founds_unseen<'o>(&mut self, version: &[u8], out: &'o mut [u8]) -> &'o [u8] {
+    pub fn founds_unseen<'o>(&mut self, version: &[u8], out: &'o mut [u8]) -> &'o [u8]
+        ensures { length result.now ≤ length out.old }
+    {
         let answer = found(self.keys, version, out, self.work);
         result_in(answer, out)
     }
@@ -63,12 +65,9 @@ impl Bench<'_, '_> {
     }
 
     // Adding, with no line; answers the archive.
-    pub fn adds_unseen<'o>(
-        &mut self,
-        archive: &[u8],
-        version: &[u8],
-        out: &'o mut [u8],
-    ) -> &'o [u8] {
+    pub fn adds_unseen<'o>(&mut self, archive: &[u8], version: &[u8], out: &'o mut [u8]) -> &'o [u8]
+        ensures { length result.now ≤ length out.old }
+    {
         let answer = add_version(self.keys, archive, version, out, self.work);
         result_in(answer, out)
     }
@@ -106,7 +105,9 @@ impl Bench<'_, '_> {
     }
 
     // The longest history line, with no line of its own.
-    pub fn gives_longest_unseen<'o>(&mut self, of: usize, out: &'o mut [u8]) -> &'o [u8] {
+    pub fn gives_longest_unseen<'o>(&mut self, of: usize, out: &'o mut [u8]) -> &'o [u8]
+        ensures { length result.now ≤ length out.old }
+    {
         let answer = longest_history(of, out, self.work);
         result_in(answer, out)
     }

@@ -1,18 +1,26 @@
 // The line of a case.
-ghost use Rattle.std.specs.Prelude.{◌≤◌, length};
+ghost use Rattle.std.specs.Prelude.{◌<◌, ◌≤◌, length};
 
 use files::within;
 use keys::refusal::Refusal;
 use marks::Table;
 use marks::bytes::put_table;
 
+// A sum of the checksum, with one more byte or one more value of the other sum.
+fn plus(sum: u64, more: u64) -> u64
+    requires { (sum < 65521) × (more < 65521) }
+    ensures { result < 65521 }
+{
+    (sum + more) % 65521
+}
+
 // The Adler-32 checksum of bytes (RFC 1950).
 fn checksum(bytes: &[u8]) -> u64 {
     let mut a = 1;
     let mut b = 0;
     for byte in bytes {
-        a = (a + u64::from(*byte)) % 65521;
-        b = (b + a) % 65521;
+        a = plus(a, u64::from(*byte));
+        b = plus(b, a);
     }
     b * 65536 + a
 }

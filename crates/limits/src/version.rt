@@ -1,4 +1,6 @@
 // Versions 999 and 1,000.
+ghost use Rattle.std.specs.Prelude.{◌≤◌, length};
+
 use crate::calls::{Bench, Out};
 use crate::mark::last_marks;
 use files::within;
@@ -11,7 +13,9 @@ fn add_two(bench: &mut Bench, length: usize, a: &mut Out, b: &mut Out) -> usize 
 }
 
 // The archive of 997 versions, added one by one: every other one has the frontier.
-fn grow<'o>(bench: &mut Bench, a: &'o mut Out, b: &mut Out) -> &'o [u8] {
+fn grow<'o>(bench: &mut Bench, a: &'o mut Out, b: &mut Out) -> &'o [u8]
+    ensures { length result.now ≤ length a.old }
+{
     let mut length = bench.founds_unseen(b"<s><f>x</f></s>", a).len();
     for _ in 0..498 {
         length = add_two(bench, length, a, b);

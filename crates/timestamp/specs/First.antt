@@ -154,7 +154,7 @@ module _ {s : ℕ → Bool} (x v k j r : ℕ) (is : (u : ℕ) → u / 64 ≡ k �
       is u d' ∙ ap (bit x) m ∙ sym (bit-shr x j i) ∙ ap (λ (y : ℕ). bit y i) (sym d)
 
   -- a rest that is not 0 gives its lowest bit
-  word-found : r < 2 ^ (64 - j) → (r ≡ 0 → ⊥) → first_in (1024 - v) s v ≡ v + count_trailing_zeros 64 r
+  pub word-found : r < 2 ^ (64 - j) → (r ≡ 0 → ⊥) → first_in (1024 - v) s v ≡ v + count_trailing_zeros 64 r
   word-found hr ne =
       let t = count_trailing_zeros 64 r in
       let b = lowest-in (64 - j) 64 r (omega arith) (omega arith) hr in

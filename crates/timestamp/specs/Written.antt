@@ -46,10 +46,10 @@ written-end {s} {at = at} {to = to} {lo = lo} p h =
 -- one run more, from `lo` to before `e`
 module _ {s : ℕ → Bool} {old mid : List ℕ} {at to lo e : ℕ} (p : Written s old at mid to lo) (h : lo < 1000)
     (d : e ≡ min (first_in (1024 - lo) (outside s) lo) 1000) where
-  past-run : (lo < e) × (e ≤ 1000)
+  pub past-run : (lo < e) × (e ≤ 1000)
   past-run = (run_past s lo e h (p.member h) d, omega (arith, d))
 
-  written-more : {new : List ℕ} {next after : ℕ} → Wrote mid to (part (ltb at to) (lo, e - 1)) after new → next ≡ first_in (1024 - e) s e → Written s old at new after next
+  pub written-more : {new : List ℕ} {next after : ℕ} → Wrote mid to (part (ltb at to) (lo, e - 1)) after new → next ≡ first_in (1024 - e) s e → Written s old at new after next
   unfolding following
   written-more {new} {next} {after} q n =
       let r = past-run in

@@ -1,6 +1,6 @@
 -- The reader's tokens, continued: an end tag, a byte outside the root, and the beginning and the end of the text.
 use Prim.Native.Char.{code}
-use Prim.Native.Nat.{ℕ, suc, ◌+◌, ◌*◌, ◌-◌, ◌%◌, ◌<◌, ◌≤◌}
+use Prim.Native.Nat.{ℕ, zero, suc, ◌+◌, ◌*◌, ◌-◌, ◌%◌, ◌<◌, ◌≤◌}
 use mathlib.Core.Path.{◌≡◌, refl, ap, sym, ◌∙◌, subst}
 use mathlib.Core.Bool.{Bool, true, false}
 use mathlib.Core.List.{List, ◌∷◌}
@@ -20,6 +20,7 @@ use Rattle.xml.specs.StepLaws.{go-end, in-range, step_start, step_end, out-white
 use Rattle.xml.specs.Held.{Held, held_none, held-le, held-close}
 use Rattle.xml.specs.Tokens.{EndRead, ended_by}
 use Rattle.xml.specs.State.{Reading, Here, Ending, Opening, Untouched, Went, Filled}
+use Rattle.xml.specs.Stretch.{Each, Passed, each_part}
 use Rattle.xml.proofs.Steps.{in-text, stops, went}
 use Rattle.xml.proofs.Turns.{Around, around, outermost}
 use Rattle.std.specs.Prelude.{Result, Ok, Err}
@@ -173,6 +174,24 @@ module _ {a : Bool} {src : Bytes} {cells : List ℕ} {at count top : ℕ} (w : H
 
   pub opening-root : get_or src at 0 ≡ code "<" → count ≤ 0 → Opening a src cells at count top
   opening-root e z = subst (Opening a src cells at count) (sym shut) (outside-start outside e (omega arith))
+
+-- white space outside the root, as far as it goes
+module _ {a : Bool} {src : Bytes} {cells : List ℕ} {count r : ℕ} (k : r ≤ length src) where
+  outside-on : (d : ℕ) {at : ℕ} (w : Here a src cells at count 0) → is_white (get_or src at 0) ≡ true → Each is_white true src (at + 1) r
+      → at + 1 + d ≡ r → Reading a src cells r count 0
+  outside-on zero {at} w e p h = let z : at + 1 ≡ r = omega arith in subst (λ (x : ℕ). Reading a src cells x count 0) z (outside-white w e).reading
+  outside-on (suc d) {at} w e p h =
+      let n : at + 1 < r = omega arith in
+      outside-on d (record { reading = (outside-white w e).reading; here = omega arith }) (p.at (at + 1) (omega arith) n) (each_part p (omega arith) (omega arith)) (omega arith)
+
+pub outside-whites : {a : Bool} {src : Bytes} {cells : List ℕ} {at count r : ℕ} (w : Here a src cells at count 0) → is_white (get_or src at 0) ≡ true
+    → Passed is_white true src (at + 1) (length src) r → Went a src cells at count cells r count 0
+outside-whites {at = at} {r = r} w e p = record {
+  reading = outside-on p.inside (r - (at + 1)) w e p.each (omega (arith, p.forward));
+  later = omega (arith, p.forward);
+  more = omega arith;
+  untouched = λ i h. refl;
+}
 
 -- ---- the end of the text
 module _ {a : Bool} {src : Bytes} {cells : List ℕ} {at count top : ℕ} (r : Reading a src cells at count top) (ends : length src ≤ at) where

@@ -1,11 +1,13 @@
 // The reader: a text onto a tape, one loop over its tokens. An open node's second cell holds the number of the open node around it,
 // and one more than it (0 where there is none); its end tag puts the number of the next node there.
-ghost use Rattle.std.specs.Prelude.{◌≡◌, ℕ, ◌+◌, ◌*◌, ◌<◌, ◌≤◌, length, get_or, set};
+ghost use Rattle.std.specs.Prelude.{◌≡◌, true, ℕ, ◌+◌, ◌*◌, ◌<◌, ◌≤◌, length, get_or, set};
+ghost use Rattle.xml.specs.Bytes.{is_white};
 ghost use Rattle.xml.specs.TapeNew.{head_of};
 ghost use Rattle.xml.specs.State.{Here, Running, Ending, Opening, Noted, Stepped, Replied};
 
 use crate::class::is_white_byte;
 use crate::scan::{byte_at, end_tag, start_tag, text_run};
+use crate::stretch::{Sort, pass_bytes};
 use crate::tape::view_at;
 use crate::{ReadError, Start};
 
@@ -15,6 +17,23 @@ struct Progress {
     at: usize,
     count: usize,
     top: usize,
+}
+
+// White space, which may stand outside the root.
+struct White;
+
+impl Sort for White {
+    ghost test = { is_white };
+
+    ghost answer = { true };
+
+    fn is_other(b: u8) -> bool {
+        !is_white_byte(b)
+    }
+
+    fn goes_on(b: u8) -> bool {
+        is_white_byte(b)
+    }
 }
 
 // The first cell of a node.
@@ -118,7 +137,7 @@ fn close_tag(
     }
 }
 
-// The token at `from.at`: text or a tag in an open node; white space or the root's tag outside.
+// The token at `from.at`: text or a tag in an open node; all white space that stands there, or the root's tag, outside.
 fn advance(
     src: &[u8],
     archive: bool,
@@ -135,7 +154,7 @@ fn advance(
         }
         if is_white_byte(b) {
             return Ok(Progress {
-                at: from.at + 1,
+                at: pass_bytes::<White>(src, from.at + 1, src.len()),
                 count: from.count,
                 top: 0,
             });

@@ -32,12 +32,15 @@ pub fn put(b: u8, out: &mut [u8], at: usize) -> usize
     at + 1
 }
 
-// Copies `word` into `out` from a place on, where all of it fits.
+// Copies `word` into `out` from a place on, where all of it fits. Byte by byte, which the compiler makes a call of memcpy: `copy_from_slice`
+// would ask C's library for memmove.
 fn copy(word: &[u8], out: &mut [u8], from: usize)
     requires { from + length word.now ≤ length out.old }
     ensures { out.new ≡ over_at out.old from word.now }
 {
-    out[from..from + word.len()].copy_from_slice(word);
+    for i in 0..word.len() {
+        out[from + i] = word[i];
+    }
 }
 
 // Writes the bytes of `word` as they stand: most often all of them fit, and the compiler knows how many they are.

@@ -32,11 +32,11 @@ write_added-is_above-requires t c = c.requires.0.held.tabled.held
 
 pub write_added-write_contents-requires : goal.write_added-write_contents-requires
 write_added-write_contents-requires t c = let h = c.requires.0.held in
-    let a = sym (c.is_above.ensures c.requires.0.key_list c.requires.0.path h.tabled h.place_is) ∙ c.if-not-is_above.true in
+    let a = sym (c.is_above.ensures c.args.keys.now.text.now c.requires.0.key_list c.requires.0.path h.tabled h.place_is) ∙ c.if-not-is_above.true in
     (record { forest = c.requires.0.forest; tape = h.tape; legal = h.front a }, h.set.ordered, h.set.within, h.set.short, record { forest = c.requires.0.other; tape = h.vtape }, c.requires.1, c.requires.2, c.requires.3, omega (arith, c.requires.4))
 
 pub write_added-returns-then-not-is_above : goal.write_added-returns-then-not-is_above
-write_added-returns-then-not-is_above t c K w u f v g = let a = sym (c.is_above.ensures K w g.tabled g.place_is) ∙ c.if-not-is_above.true in
+write_added-returns-then-not-is_above t c K w u f v g = let a = sym (c.is_above.ensures c.args.keys.now.text.now K w g.tabled g.place_is) ∙ c.if-not-is_above.true in
     rw (inside-front K c.args.n w u f v a) (c.write_contents.ensures u f v g.tape g.vtape (g.front a) g.plain g.set)
 
 pub write_added-loop-p-init : goal.write_added-loop-p-init
@@ -44,7 +44,7 @@ write_added-loop-p-init t c = (omega arith, omega arith, omega arith, omega arit
 
 pub write_added-own_place-own-requires : goal.write_added-own_place-own-requires
 write_added-own_place-own-requires t c =
-    let above-is : (K : KeyList) (w : Path) → Table c.args.keys.now.text.now c.args.keys.now.table.now c.args.keys.now.paths K → place_of K w ≡ c.args.place → above K w ≡ true = λ K w a b. sym (c.is_above.ensures K w a b) ∙ c.if-not-is_above.false in
+    let above-is : (K : KeyList) (w : Path) → Table c.args.keys.now.text.now c.args.keys.now.table.now c.args.keys.now.paths K → place_of K w ≡ c.args.place → above K w ≡ true = λ K w a b. sym (c.is_above.ensures c.args.keys.now.text.now K w a b) ∙ c.if-not-is_above.false in
     let way : Way c.args.archive.now.src.now c.args.archive.now.tape.now c.loop-p.p c.args.hi c.args.version.now.src.now c.args.version.now.tape.now c.loop-p.q c.args.vhi c.args.n c.requires.0.key_list c.requires.0.path c.requires.0.times (add_in c.requires.0.key_list c.args.n c.requires.0.path c.requires.0.times c.requires.0.forest c.requires.0.other) c.requires.0.forest c.args.out.now c.args.at c.loop-p.to c.loop-p.out c.loop-p.fresh = let h = c.requires.0 in c.loop-p.invariant.5 h.key_list h.path h.times h.forest h.other h.held (above-is h.key_list h.path h.held.tabled h.held.place_is) in
     let x = way in
     let s = next_of x c.loop-p-test.true in
@@ -56,7 +56,7 @@ write_added-own_place-own-requires t c =
 
 pub write_added-order_of-requires : goal.write_added-order_of-requires
 write_added-order_of-requires t c =
-    let above-is : (K : KeyList) (w : Path) → Table c.args.keys.now.text.now c.args.keys.now.table.now c.args.keys.now.paths K → place_of K w ≡ c.args.place → above K w ≡ true = λ K w a b. sym (c.is_above.ensures K w a b) ∙ c.if-not-is_above.false in
+    let above-is : (K : KeyList) (w : Path) → Table c.args.keys.now.text.now c.args.keys.now.table.now c.args.keys.now.paths K → place_of K w ≡ c.args.place → above K w ≡ true = λ K w a b. sym (c.is_above.ensures c.args.keys.now.text.now K w a b) ∙ c.if-not-is_above.false in
     let way : Way c.args.archive.now.src.now c.args.archive.now.tape.now c.loop-p.p c.args.hi c.args.version.now.src.now c.args.version.now.tape.now c.loop-p.q c.args.vhi c.args.n c.requires.0.key_list c.requires.0.path c.requires.0.times (add_in c.requires.0.key_list c.args.n c.requires.0.path c.requires.0.times c.requires.0.forest c.requires.0.other) c.requires.0.forest c.args.out.now c.args.at c.loop-p.to c.loop-p.out c.loop-p.fresh = let h = c.requires.0 in c.loop-p.invariant.5 h.key_list h.path h.times h.forest h.other h.held (above-is h.key_list h.path h.held.tabled h.held.place_is) in
     let x = way in
     let s = next_of x c.loop-p-test.true in
@@ -65,7 +65,7 @@ write_added-order_of-requires t c =
 
 pub write_added-view-w-requires : goal.write_added-view-w-requires
 write_added-view-w-requires t c =
-    let above-is : (K : KeyList) (w : Path) → Table c.args.keys.now.text.now c.args.keys.now.table.now c.args.keys.now.paths K → place_of K w ≡ c.args.place → above K w ≡ true = λ K w a b. sym (c.is_above.ensures K w a b) ∙ c.if-not-is_above.false in
+    let above-is : (K : KeyList) (w : Path) → Table c.args.keys.now.text.now c.args.keys.now.table.now c.args.keys.now.paths K → place_of K w ≡ c.args.place → above K w ≡ true = λ K w a b. sym (c.is_above.ensures c.args.keys.now.text.now K w a b) ∙ c.if-not-is_above.false in
     let way : Way c.args.archive.now.src.now c.args.archive.now.tape.now c.loop-p.p c.args.hi c.args.version.now.src.now c.args.version.now.tape.now c.loop-p.q c.args.vhi c.args.n c.requires.0.key_list c.requires.0.path c.requires.0.times (add_in c.requires.0.key_list c.args.n c.requires.0.path c.requires.0.times c.requires.0.forest c.requires.0.other) c.requires.0.forest c.args.out.now c.args.at c.loop-p.to c.loop-p.out c.loop-p.fresh = let h = c.requires.0 in c.loop-p.invariant.5 h.key_list h.path h.times h.forest h.other h.held (above-is h.key_list h.path h.held.tabled h.held.place_is) in
     let newer : c.loop-p.q < c.args.vhi = let x = way in let h = c.requires.0 in there x c.loop-p-test.true (λ z. omega (arith, sym (order-at x c.loop-p-test.true (c.own_place-own.ensures h.key_list h.path h.held.tabled h.held.place_is) (c.order_of.ensures h.key_list h.path h.held.tabled)) ∙ z, ap ordering_index c.in-Greater.is)) in
     (front way.vtape newer).held
@@ -78,7 +78,7 @@ write_added-slice_bounds-put_newest-start t c = omega (arith, c.least-from.ensur
 
 pub write_added-put_newest-to-requires : goal.write_added-put_newest-to-requires
 write_added-put_newest-to-requires t c =
-    let above-is : (K : KeyList) (w : Path) → Table c.args.keys.now.text.now c.args.keys.now.table.now c.args.keys.now.paths K → place_of K w ≡ c.args.place → above K w ≡ true = λ K w a b. sym (c.is_above.ensures K w a b) ∙ c.if-not-is_above.false in
+    let above-is : (K : KeyList) (w : Path) → Table c.args.keys.now.text.now c.args.keys.now.table.now c.args.keys.now.paths K → place_of K w ≡ c.args.place → above K w ≡ true = λ K w a b. sym (c.is_above.ensures c.args.keys.now.text.now K w a b) ∙ c.if-not-is_above.false in
     let way : Way c.args.archive.now.src.now c.args.archive.now.tape.now c.loop-p.p c.args.hi c.args.version.now.src.now c.args.version.now.tape.now c.loop-p.q c.args.vhi c.args.n c.requires.0.key_list c.requires.0.path c.requires.0.times (add_in c.requires.0.key_list c.args.n c.requires.0.path c.requires.0.times c.requires.0.forest c.requires.0.other) c.requires.0.forest c.args.out.now c.args.at c.loop-p.to c.loop-p.out c.loop-p.fresh = let h = c.requires.0 in c.loop-p.invariant.5 h.key_list h.path h.times h.forest h.other h.held (above-is h.key_list h.path h.held.tabled h.held.place_is) in
     let newer : c.loop-p.q < c.args.vhi = let x = way in let h = c.requires.0 in there x c.loop-p-test.true (λ z. omega (arith, sym (order-at x c.loop-p-test.true (c.own_place-own.ensures h.key_list h.path h.held.tabled h.held.place_is) (c.order_of.ensures h.key_list h.path h.held.tabled)) ∙ z, ap ordering_index c.in-Greater.is)) in
     let x = way in
@@ -88,7 +88,7 @@ write_added-put_newest-to-requires t c =
 
 pub write_added-overflow_add-to : goal.write_added-overflow_add-to
 write_added-overflow_add-to t c =
-    let above-is : (K : KeyList) (w : Path) → Table c.args.keys.now.text.now c.args.keys.now.table.now c.args.keys.now.paths K → place_of K w ≡ c.args.place → above K w ≡ true = λ K w a b. sym (c.is_above.ensures K w a b) ∙ c.if-not-is_above.false in
+    let above-is : (K : KeyList) (w : Path) → Table c.args.keys.now.text.now c.args.keys.now.table.now c.args.keys.now.paths K → place_of K w ≡ c.args.place → above K w ≡ true = λ K w a b. sym (c.is_above.ensures c.args.keys.now.text.now K w a b) ∙ c.if-not-is_above.false in
     let way : Way c.args.archive.now.src.now c.args.archive.now.tape.now c.loop-p.p c.args.hi c.args.version.now.src.now c.args.version.now.tape.now c.loop-p.q c.args.vhi c.args.n c.requires.0.key_list c.requires.0.path c.requires.0.times (add_in c.requires.0.key_list c.args.n c.requires.0.path c.requires.0.times c.requires.0.forest c.requires.0.other) c.requires.0.forest c.args.out.now c.args.at c.loop-p.to c.loop-p.out c.loop-p.fresh = let h = c.requires.0 in c.loop-p.invariant.5 h.key_list h.path h.times h.forest h.other h.held (above-is h.key_list h.path h.held.tabled h.held.place_is) in
     let newer : c.loop-p.q < c.args.vhi = let x = way in let h = c.requires.0 in there x c.loop-p-test.true (λ z. omega (arith, sym (order-at x c.loop-p-test.true (c.own_place-own.ensures h.key_list h.path h.held.tabled h.held.place_is) (c.order_of.ensures h.key_list h.path h.held.tabled)) ∙ z, ap ordering_index c.in-Greater.is)) in
     let g = front way.vtape newer in
@@ -96,21 +96,21 @@ write_added-overflow_add-to t c =
 
 pub write_added-overflow_sub-fresh : goal.write_added-overflow_sub-fresh
 write_added-overflow_sub-fresh t c =
-    let above-is : (K : KeyList) (w : Path) → Table c.args.keys.now.text.now c.args.keys.now.table.now c.args.keys.now.paths K → place_of K w ≡ c.args.place → above K w ≡ true = λ K w a b. sym (c.is_above.ensures K w a b) ∙ c.if-not-is_above.false in
+    let above-is : (K : KeyList) (w : Path) → Table c.args.keys.now.text.now c.args.keys.now.table.now c.args.keys.now.paths K → place_of K w ≡ c.args.place → above K w ≡ true = λ K w a b. sym (c.is_above.ensures c.args.keys.now.text.now K w a b) ∙ c.if-not-is_above.false in
     let way : Way c.args.archive.now.src.now c.args.archive.now.tape.now c.loop-p.p c.args.hi c.args.version.now.src.now c.args.version.now.tape.now c.loop-p.q c.args.vhi c.args.n c.requires.0.key_list c.requires.0.path c.requires.0.times (add_in c.requires.0.key_list c.args.n c.requires.0.path c.requires.0.times c.requires.0.forest c.requires.0.other) c.requires.0.forest c.args.out.now c.args.at c.loop-p.to c.loop-p.out c.loop-p.fresh = let h = c.requires.0 in c.loop-p.invariant.5 h.key_list h.path h.times h.forest h.other h.held (above-is h.key_list h.path h.held.tabled h.held.place_is) in
     let newer : c.loop-p.q < c.args.vhi = let x = way in let h = c.requires.0 in there x c.loop-p-test.true (λ z. omega (arith, sym (order-at x c.loop-p-test.true (c.own_place-own.ensures h.key_list h.path h.held.tabled h.held.place_is) (c.order_of.ensures h.key_list h.path h.held.tabled)) ∙ z, ap ordering_index c.in-Greater.is)) in
     rw c.view-w.ensures (omega (arith, (front way.vtape newer).forward))
 
 pub write_added-overflow_add-fresh : goal.write_added-overflow_add-fresh
 write_added-overflow_add-fresh t c =
-    let above-is : (K : KeyList) (w : Path) → Table c.args.keys.now.text.now c.args.keys.now.table.now c.args.keys.now.paths K → place_of K w ≡ c.args.place → above K w ≡ true = λ K w a b. sym (c.is_above.ensures K w a b) ∙ c.if-not-is_above.false in
+    let above-is : (K : KeyList) (w : Path) → Table c.args.keys.now.text.now c.args.keys.now.table.now c.args.keys.now.paths K → place_of K w ≡ c.args.place → above K w ≡ true = λ K w a b. sym (c.is_above.ensures c.args.keys.now.text.now K w a b) ∙ c.if-not-is_above.false in
     let way : Way c.args.archive.now.src.now c.args.archive.now.tape.now c.loop-p.p c.args.hi c.args.version.now.src.now c.args.version.now.tape.now c.loop-p.q c.args.vhi c.args.n c.requires.0.key_list c.requires.0.path c.requires.0.times (add_in c.requires.0.key_list c.args.n c.requires.0.path c.requires.0.times c.requires.0.forest c.requires.0.other) c.requires.0.forest c.args.out.now c.args.at c.loop-p.to c.loop-p.out c.loop-p.fresh = let h = c.requires.0 in c.loop-p.invariant.5 h.key_list h.path h.times h.forest h.other h.held (above-is h.key_list h.path h.held.tabled h.held.place_is) in
     let newer : c.loop-p.q < c.args.vhi = let x = way in let h = c.requires.0 in there x c.loop-p-test.true (λ z. omega (arith, sym (order-at x c.loop-p-test.true (c.own_place-own.ensures h.key_list h.path h.held.tabled h.held.place_is) (c.order_of.ensures h.key_list h.path h.held.tabled)) ∙ z, ap ordering_index c.in-Greater.is)) in
     rw c.view-w.ensures (omega (arith, (front way.vtape newer).inside, c.loop-p.invariant.3, c.requires.3))
 
 pub write_added-loop-p-smaller-in-Greater : goal.write_added-loop-p-smaller-in-Greater
 write_added-loop-p-smaller-in-Greater t c =
-    let above-is : (K : KeyList) (w : Path) → Table c.args.keys.now.text.now c.args.keys.now.table.now c.args.keys.now.paths K → place_of K w ≡ c.args.place → above K w ≡ true = λ K w a b. sym (c.is_above.ensures K w a b) ∙ c.if-not-is_above.false in
+    let above-is : (K : KeyList) (w : Path) → Table c.args.keys.now.text.now c.args.keys.now.table.now c.args.keys.now.paths K → place_of K w ≡ c.args.place → above K w ≡ true = λ K w a b. sym (c.is_above.ensures c.args.keys.now.text.now K w a b) ∙ c.if-not-is_above.false in
     let way : Way c.args.archive.now.src.now c.args.archive.now.tape.now c.loop-p.p c.args.hi c.args.version.now.src.now c.args.version.now.tape.now c.loop-p.q c.args.vhi c.args.n c.requires.0.key_list c.requires.0.path c.requires.0.times (add_in c.requires.0.key_list c.args.n c.requires.0.path c.requires.0.times c.requires.0.forest c.requires.0.other) c.requires.0.forest c.args.out.now c.args.at c.loop-p.to c.loop-p.out c.loop-p.fresh = let h = c.requires.0 in c.loop-p.invariant.5 h.key_list h.path h.times h.forest h.other h.held (above-is h.key_list h.path h.held.tabled h.held.place_is) in
     let newer : c.loop-p.q < c.args.vhi = let x = way in let h = c.requires.0 in there x c.loop-p-test.true (λ z. omega (arith, sym (order-at x c.loop-p-test.true (c.own_place-own.ensures h.key_list h.path h.held.tabled h.held.place_is) (c.order_of.ensures h.key_list h.path h.held.tabled)) ∙ z, ap ordering_index c.in-Greater.is)) in
     let g = front way.vtape newer in
@@ -118,7 +118,7 @@ write_added-loop-p-smaller-in-Greater t c =
 
 pub write_added-loop-p-preserved-in-Greater : goal.write_added-loop-p-preserved-in-Greater
 write_added-loop-p-preserved-in-Greater t c =
-    let above-is : (K : KeyList) (w : Path) → Table c.args.keys.now.text.now c.args.keys.now.table.now c.args.keys.now.paths K → place_of K w ≡ c.args.place → above K w ≡ true = λ K w a b. sym (c.is_above.ensures K w a b) ∙ c.if-not-is_above.false in
+    let above-is : (K : KeyList) (w : Path) → Table c.args.keys.now.text.now c.args.keys.now.table.now c.args.keys.now.paths K → place_of K w ≡ c.args.place → above K w ≡ true = λ K w a b. sym (c.is_above.ensures c.args.keys.now.text.now K w a b) ∙ c.if-not-is_above.false in
     let way : Way c.args.archive.now.src.now c.args.archive.now.tape.now c.loop-p.p c.args.hi c.args.version.now.src.now c.args.version.now.tape.now c.loop-p.q c.args.vhi c.args.n c.requires.0.key_list c.requires.0.path c.requires.0.times (add_in c.requires.0.key_list c.args.n c.requires.0.path c.requires.0.times c.requires.0.forest c.requires.0.other) c.requires.0.forest c.args.out.now c.args.at c.loop-p.to c.loop-p.out c.loop-p.fresh = let h = c.requires.0 in c.loop-p.invariant.5 h.key_list h.path h.times h.forest h.other h.held (above-is h.key_list h.path h.held.tabled h.held.place_is) in
     let newer : c.loop-p.q < c.args.vhi = let x = way in let h = c.requires.0 in there x c.loop-p-test.true (λ z. omega (arith, sym (order-at x c.loop-p-test.true (c.own_place-own.ensures h.key_list h.path h.held.tabled h.held.place_is) (c.order_of.ensures h.key_list h.path h.held.tabled)) ∙ z, ap ordering_index c.in-Greater.is)) in
     let e = c.view-w.ensures in
@@ -144,7 +144,7 @@ write_added-slice_bounds-write_old-start t c = omega (arith, c.least-from.ensure
 
 pub write_added-write_old-to-requires : goal.write_added-write_old-to-requires
 write_added-write_old-to-requires t c =
-    let above-is : (K : KeyList) (w : Path) → Table c.args.keys.now.text.now c.args.keys.now.table.now c.args.keys.now.paths K → place_of K w ≡ c.args.place → above K w ≡ true = λ K w a b. sym (c.is_above.ensures K w a b) ∙ c.if-not-is_above.false in
+    let above-is : (K : KeyList) (w : Path) → Table c.args.keys.now.text.now c.args.keys.now.table.now c.args.keys.now.paths K → place_of K w ≡ c.args.place → above K w ≡ true = λ K w a b. sym (c.is_above.ensures c.args.keys.now.text.now K w a b) ∙ c.if-not-is_above.false in
     let way : Way c.args.archive.now.src.now c.args.archive.now.tape.now c.loop-p.p c.args.hi c.args.version.now.src.now c.args.version.now.tape.now c.loop-p.q c.args.vhi c.args.n c.requires.0.key_list c.requires.0.path c.requires.0.times (add_in c.requires.0.key_list c.args.n c.requires.0.path c.requires.0.times c.requires.0.forest c.requires.0.other) c.requires.0.forest c.args.out.now c.args.at c.loop-p.to c.loop-p.out c.loop-p.fresh = let h = c.requires.0 in c.loop-p.invariant.5 h.key_list h.path h.times h.forest h.other h.held (above-is h.key_list h.path h.held.tabled h.held.place_is) in
     let x = way in
     let l = c.loop-p-test.true in
@@ -155,27 +155,27 @@ write_added-write_old-to-requires t c =
 
 pub write_added-overflow_add-to-in-Less : goal.write_added-overflow_add-to-in-Less
 write_added-overflow_add-to-in-Less t c =
-    let above-is : (K : KeyList) (w : Path) → Table c.args.keys.now.text.now c.args.keys.now.table.now c.args.keys.now.paths K → place_of K w ≡ c.args.place → above K w ≡ true = λ K w a b. sym (c.is_above.ensures K w a b) ∙ c.if-not-is_above.false in
+    let above-is : (K : KeyList) (w : Path) → Table c.args.keys.now.text.now c.args.keys.now.table.now c.args.keys.now.paths K → place_of K w ≡ c.args.place → above K w ≡ true = λ K w a b. sym (c.is_above.ensures c.args.keys.now.text.now K w a b) ∙ c.if-not-is_above.false in
     let way : Way c.args.archive.now.src.now c.args.archive.now.tape.now c.loop-p.p c.args.hi c.args.version.now.src.now c.args.version.now.tape.now c.loop-p.q c.args.vhi c.args.n c.requires.0.key_list c.requires.0.path c.requires.0.times (add_in c.requires.0.key_list c.args.n c.requires.0.path c.requires.0.times c.requires.0.forest c.requires.0.other) c.requires.0.forest c.args.out.now c.args.at c.loop-p.to c.loop-p.out c.loop-p.fresh = let h = c.requires.0 in c.loop-p.invariant.5 h.key_list h.path h.times h.forest h.other h.held (above-is h.key_list h.path h.held.tabled h.held.place_is) in
     let g = front way.tape c.loop-p-test.true in
     omega (arith, c.loop-p.invariant.2, c.requires.4, g.forward, g.inside, c.write_old-to.ensures.1)
 
 pub write_added-view-v-requires : goal.write_added-view-v-requires
 write_added-view-v-requires t c =
-    let above-is : (K : KeyList) (w : Path) → Table c.args.keys.now.text.now c.args.keys.now.table.now c.args.keys.now.paths K → place_of K w ≡ c.args.place → above K w ≡ true = λ K w a b. sym (c.is_above.ensures K w a b) ∙ c.if-not-is_above.false in
+    let above-is : (K : KeyList) (w : Path) → Table c.args.keys.now.text.now c.args.keys.now.table.now c.args.keys.now.paths K → place_of K w ≡ c.args.place → above K w ≡ true = λ K w a b. sym (c.is_above.ensures c.args.keys.now.text.now K w a b) ∙ c.if-not-is_above.false in
     let way : Way c.args.archive.now.src.now c.args.archive.now.tape.now c.loop-p.p c.args.hi c.args.version.now.src.now c.args.version.now.tape.now c.loop-p.q c.args.vhi c.args.n c.requires.0.key_list c.requires.0.path c.requires.0.times (add_in c.requires.0.key_list c.args.n c.requires.0.path c.requires.0.times c.requires.0.forest c.requires.0.other) c.requires.0.forest c.args.out.now c.args.at c.loop-p.to c.loop-p.out c.loop-p.fresh = let h = c.requires.0 in c.loop-p.invariant.5 h.key_list h.path h.times h.forest h.other h.held (above-is h.key_list h.path h.held.tabled h.held.place_is) in
     (front way.tape c.loop-p-test.true).held
 
 pub write_added-loop-p-smaller-in-Less : goal.write_added-loop-p-smaller-in-Less
 write_added-loop-p-smaller-in-Less t c =
-    let above-is : (K : KeyList) (w : Path) → Table c.args.keys.now.text.now c.args.keys.now.table.now c.args.keys.now.paths K → place_of K w ≡ c.args.place → above K w ≡ true = λ K w a b. sym (c.is_above.ensures K w a b) ∙ c.if-not-is_above.false in
+    let above-is : (K : KeyList) (w : Path) → Table c.args.keys.now.text.now c.args.keys.now.table.now c.args.keys.now.paths K → place_of K w ≡ c.args.place → above K w ≡ true = λ K w a b. sym (c.is_above.ensures c.args.keys.now.text.now K w a b) ∙ c.if-not-is_above.false in
     let way : Way c.args.archive.now.src.now c.args.archive.now.tape.now c.loop-p.p c.args.hi c.args.version.now.src.now c.args.version.now.tape.now c.loop-p.q c.args.vhi c.args.n c.requires.0.key_list c.requires.0.path c.requires.0.times (add_in c.requires.0.key_list c.args.n c.requires.0.path c.requires.0.times c.requires.0.forest c.requires.0.other) c.requires.0.forest c.args.out.now c.args.at c.loop-p.to c.loop-p.out c.loop-p.fresh = let h = c.requires.0 in c.loop-p.invariant.5 h.key_list h.path h.times h.forest h.other h.held (above-is h.key_list h.path h.held.tabled h.held.place_is) in
     let g = front way.tape c.loop-p-test.true in
     rw c.view-v.ensures (omega (arith, g.forward, g.inside))
 
 pub write_added-loop-p-preserved-in-Less : goal.write_added-loop-p-preserved-in-Less
 write_added-loop-p-preserved-in-Less t c =
-    let above-is : (K : KeyList) (w : Path) → Table c.args.keys.now.text.now c.args.keys.now.table.now c.args.keys.now.paths K → place_of K w ≡ c.args.place → above K w ≡ true = λ K w a b. sym (c.is_above.ensures K w a b) ∙ c.if-not-is_above.false in
+    let above-is : (K : KeyList) (w : Path) → Table c.args.keys.now.text.now c.args.keys.now.table.now c.args.keys.now.paths K → place_of K w ≡ c.args.place → above K w ≡ true = λ K w a b. sym (c.is_above.ensures c.args.keys.now.text.now K w a b) ∙ c.if-not-is_above.false in
     let way : Way c.args.archive.now.src.now c.args.archive.now.tape.now c.loop-p.p c.args.hi c.args.version.now.src.now c.args.version.now.tape.now c.loop-p.q c.args.vhi c.args.n c.requires.0.key_list c.requires.0.path c.requires.0.times (add_in c.requires.0.key_list c.args.n c.requires.0.path c.requires.0.times c.requires.0.forest c.requires.0.other) c.requires.0.forest c.args.out.now c.args.at c.loop-p.to c.loop-p.out c.loop-p.fresh = let h = c.requires.0 in c.loop-p.invariant.5 h.key_list h.path h.times h.forest h.other h.held (above-is h.key_list h.path h.held.tabled h.held.place_is) in
     let e = c.view-v.ensures in
     let l = c.loop-p-test.true in
@@ -203,7 +203,7 @@ write_added-slice_bounds-write_both-start t c = omega (arith, c.least-from.ensur
 pub write_added-write_both-x-requires : goal.write_added-write_both-x-requires
 write_added-write_both-x-requires t c =
     let equal : (K : KeyList) (w : Path) (u : Times) (whole first : Forest) (x : Way c.args.archive.now.src.now c.args.archive.now.tape.now c.loop-p.p c.args.hi c.args.version.now.src.now c.args.version.now.tape.now c.loop-p.q c.args.vhi c.args.n K w u whole first c.args.out.now c.args.at c.loop-p.to c.loop-p.out c.loop-p.fresh) → Table c.args.keys.now.text.now c.args.keys.now.table.now c.args.keys.now.paths K → place_of K w ≡ c.args.place → order_at x c.loop-p-test.true ≡ 1 = λ K w u whole first x a b. let l = c.loop-p-test.true in order-at x l (c.own_place-own.ensures K w a b) (c.order_of.ensures K w a) ∙ ap ordering_index c.in-Equal.is in
-    let above-is : (K : KeyList) (w : Path) → Table c.args.keys.now.text.now c.args.keys.now.table.now c.args.keys.now.paths K → place_of K w ≡ c.args.place → above K w ≡ true = λ K w a b. sym (c.is_above.ensures K w a b) ∙ c.if-not-is_above.false in
+    let above-is : (K : KeyList) (w : Path) → Table c.args.keys.now.text.now c.args.keys.now.table.now c.args.keys.now.paths K → place_of K w ≡ c.args.place → above K w ≡ true = λ K w a b. sym (c.is_above.ensures c.args.keys.now.text.now K w a b) ∙ c.if-not-is_above.false in
     let way : Way c.args.archive.now.src.now c.args.archive.now.tape.now c.loop-p.p c.args.hi c.args.version.now.src.now c.args.version.now.tape.now c.loop-p.q c.args.vhi c.args.n c.requires.0.key_list c.requires.0.path c.requires.0.times (add_in c.requires.0.key_list c.args.n c.requires.0.path c.requires.0.times c.requires.0.forest c.requires.0.other) c.requires.0.forest c.args.out.now c.args.at c.loop-p.to c.loop-p.out c.loop-p.fresh = let h = c.requires.0 in c.loop-p.invariant.5 h.key_list h.path h.times h.forest h.other h.held (above-is h.key_list h.path h.held.tabled h.held.place_is) in
     let matched : c.loop-p.q < c.args.vhi = let x = way in let h = c.requires.0.held in let e = equal _ _ _ _ _ x h.tabled h.place_is in there x c.loop-p-test.true (λ z. omega (arith, e, z)) in
     let x = way in
@@ -233,14 +233,14 @@ write_added-write_both-x-requires t c =
 
 pub write_added-view-v-requires-in-Equal : goal.write_added-view-v-requires-in-Equal
 write_added-view-v-requires-in-Equal t c =
-    let above-is : (K : KeyList) (w : Path) → Table c.args.keys.now.text.now c.args.keys.now.table.now c.args.keys.now.paths K → place_of K w ≡ c.args.place → above K w ≡ true = λ K w a b. sym (c.is_above.ensures K w a b) ∙ c.if-not-is_above.false in
+    let above-is : (K : KeyList) (w : Path) → Table c.args.keys.now.text.now c.args.keys.now.table.now c.args.keys.now.paths K → place_of K w ≡ c.args.place → above K w ≡ true = λ K w a b. sym (c.is_above.ensures c.args.keys.now.text.now K w a b) ∙ c.if-not-is_above.false in
     let way : Way c.args.archive.now.src.now c.args.archive.now.tape.now c.loop-p.p c.args.hi c.args.version.now.src.now c.args.version.now.tape.now c.loop-p.q c.args.vhi c.args.n c.requires.0.key_list c.requires.0.path c.requires.0.times (add_in c.requires.0.key_list c.args.n c.requires.0.path c.requires.0.times c.requires.0.forest c.requires.0.other) c.requires.0.forest c.args.out.now c.args.at c.loop-p.to c.loop-p.out c.loop-p.fresh = let h = c.requires.0 in c.loop-p.invariant.5 h.key_list h.path h.times h.forest h.other h.held (above-is h.key_list h.path h.held.tabled h.held.place_is) in
     (front way.tape c.loop-p-test.true).held
 
 pub write_added-view-w-requires-in-Equal : goal.write_added-view-w-requires-in-Equal
 write_added-view-w-requires-in-Equal t c =
     let equal : (K : KeyList) (w : Path) (u : Times) (whole first : Forest) (x : Way c.args.archive.now.src.now c.args.archive.now.tape.now c.loop-p.p c.args.hi c.args.version.now.src.now c.args.version.now.tape.now c.loop-p.q c.args.vhi c.args.n K w u whole first c.args.out.now c.args.at c.loop-p.to c.loop-p.out c.loop-p.fresh) → Table c.args.keys.now.text.now c.args.keys.now.table.now c.args.keys.now.paths K → place_of K w ≡ c.args.place → order_at x c.loop-p-test.true ≡ 1 = λ K w u whole first x a b. let l = c.loop-p-test.true in order-at x l (c.own_place-own.ensures K w a b) (c.order_of.ensures K w a) ∙ ap ordering_index c.in-Equal.is in
-    let above-is : (K : KeyList) (w : Path) → Table c.args.keys.now.text.now c.args.keys.now.table.now c.args.keys.now.paths K → place_of K w ≡ c.args.place → above K w ≡ true = λ K w a b. sym (c.is_above.ensures K w a b) ∙ c.if-not-is_above.false in
+    let above-is : (K : KeyList) (w : Path) → Table c.args.keys.now.text.now c.args.keys.now.table.now c.args.keys.now.paths K → place_of K w ≡ c.args.place → above K w ≡ true = λ K w a b. sym (c.is_above.ensures c.args.keys.now.text.now K w a b) ∙ c.if-not-is_above.false in
     let way : Way c.args.archive.now.src.now c.args.archive.now.tape.now c.loop-p.p c.args.hi c.args.version.now.src.now c.args.version.now.tape.now c.loop-p.q c.args.vhi c.args.n c.requires.0.key_list c.requires.0.path c.requires.0.times (add_in c.requires.0.key_list c.args.n c.requires.0.path c.requires.0.times c.requires.0.forest c.requires.0.other) c.requires.0.forest c.args.out.now c.args.at c.loop-p.to c.loop-p.out c.loop-p.fresh = let h = c.requires.0 in c.loop-p.invariant.5 h.key_list h.path h.times h.forest h.other h.held (above-is h.key_list h.path h.held.tabled h.held.place_is) in
     let matched : c.loop-p.q < c.args.vhi = let x = way in let h = c.requires.0.held in let e = equal _ _ _ _ _ x h.tabled h.place_is in there x c.loop-p-test.true (λ z. omega (arith, e, z)) in
     (front way.vtape matched).held
@@ -248,7 +248,7 @@ write_added-view-w-requires-in-Equal t c =
 pub write_added-overflow_add-to-in-Equal : goal.write_added-overflow_add-to-in-Equal
 write_added-overflow_add-to-in-Equal t c =
     let equal : (K : KeyList) (w : Path) (u : Times) (whole first : Forest) (x : Way c.args.archive.now.src.now c.args.archive.now.tape.now c.loop-p.p c.args.hi c.args.version.now.src.now c.args.version.now.tape.now c.loop-p.q c.args.vhi c.args.n K w u whole first c.args.out.now c.args.at c.loop-p.to c.loop-p.out c.loop-p.fresh) → Table c.args.keys.now.text.now c.args.keys.now.table.now c.args.keys.now.paths K → place_of K w ≡ c.args.place → order_at x c.loop-p-test.true ≡ 1 = λ K w u whole first x a b. let l = c.loop-p-test.true in order-at x l (c.own_place-own.ensures K w a b) (c.order_of.ensures K w a) ∙ ap ordering_index c.in-Equal.is in
-    let above-is : (K : KeyList) (w : Path) → Table c.args.keys.now.text.now c.args.keys.now.table.now c.args.keys.now.paths K → place_of K w ≡ c.args.place → above K w ≡ true = λ K w a b. sym (c.is_above.ensures K w a b) ∙ c.if-not-is_above.false in
+    let above-is : (K : KeyList) (w : Path) → Table c.args.keys.now.text.now c.args.keys.now.table.now c.args.keys.now.paths K → place_of K w ≡ c.args.place → above K w ≡ true = λ K w a b. sym (c.is_above.ensures c.args.keys.now.text.now K w a b) ∙ c.if-not-is_above.false in
     let way : Way c.args.archive.now.src.now c.args.archive.now.tape.now c.loop-p.p c.args.hi c.args.version.now.src.now c.args.version.now.tape.now c.loop-p.q c.args.vhi c.args.n c.requires.0.key_list c.requires.0.path c.requires.0.times (add_in c.requires.0.key_list c.args.n c.requires.0.path c.requires.0.times c.requires.0.forest c.requires.0.other) c.requires.0.forest c.args.out.now c.args.at c.loop-p.to c.loop-p.out c.loop-p.fresh = let h = c.requires.0 in c.loop-p.invariant.5 h.key_list h.path h.times h.forest h.other h.held (above-is h.key_list h.path h.held.tabled h.held.place_is) in
     let matched : c.loop-p.q < c.args.vhi = let x = way in let h = c.requires.0.held in let e = equal _ _ _ _ _ x h.tabled h.place_is in there x c.loop-p-test.true (λ z. omega (arith, e, z)) in
     let grown : Grew c.loop-p.out c.loop-p.to (both_part c.args.n (next_of (way) c.loop-p-test.true).own (next_of (way) c.loop-p-test.true).name (inside c.requires.0.key_list c.args.n (c.requires.0.path ▸ (next_of (way) c.loop-p-test.true).name) (set_in c.args.n c.requires.0.times (next_of (way) c.loop-p-test.true).own) (next_of (way) c.loop-p-test.true).kids (other_of (way) (matched)).kids)) (sibling (next_of (way) c.loop-p-test.true).own (next_of (way) c.loop-p-test.true).name (next_of (way) c.loop-p-test.true).kids) (next_at c.args.version.now.tape.now c.loop-p.q - c.loop-p.q) (262144 * (next_at c.args.archive.now.tape.now c.loop-p.p - c.loop-p.p + (next_at c.args.version.now.tape.now c.loop-p.q - c.loop-p.q))) (record { at = c.loop-p.to + c.write_both-x.result.at; fresh = c.write_both-x.result.fresh }) (put_mid c.least-from.result (length c.loop-p.out - c.least-from.result) c.loop-p.out c.write_both-x.new.out) = let x = way in let l = c.loop-p-test.true in let i = matched in let h = c.requires.0 in grew-lent c.loop-p.out c.loop-p.to c.least-from.result c.least-from.ensures (c.write_both-x.ensures h.key_list h.path h.times (next_of x l).own (next_of x l).name (next_of x l).kids (other_of x i).kids (both_of x l i (equal _ _ _ _ _ x h.held.tabled h.held.place_is) h.held.tabled (c.own_place-own.ensures h.key_list h.path h.held.tabled h.held.place_is) h.held.set)) in
@@ -260,7 +260,7 @@ write_added-overflow_add-to-in-Equal t c =
 pub write_added-overflow_add-fresh-in-Equal : goal.write_added-overflow_add-fresh-in-Equal
 write_added-overflow_add-fresh-in-Equal t c =
     let equal : (K : KeyList) (w : Path) (u : Times) (whole first : Forest) (x : Way c.args.archive.now.src.now c.args.archive.now.tape.now c.loop-p.p c.args.hi c.args.version.now.src.now c.args.version.now.tape.now c.loop-p.q c.args.vhi c.args.n K w u whole first c.args.out.now c.args.at c.loop-p.to c.loop-p.out c.loop-p.fresh) → Table c.args.keys.now.text.now c.args.keys.now.table.now c.args.keys.now.paths K → place_of K w ≡ c.args.place → order_at x c.loop-p-test.true ≡ 1 = λ K w u whole first x a b. let l = c.loop-p-test.true in order-at x l (c.own_place-own.ensures K w a b) (c.order_of.ensures K w a) ∙ ap ordering_index c.in-Equal.is in
-    let above-is : (K : KeyList) (w : Path) → Table c.args.keys.now.text.now c.args.keys.now.table.now c.args.keys.now.paths K → place_of K w ≡ c.args.place → above K w ≡ true = λ K w a b. sym (c.is_above.ensures K w a b) ∙ c.if-not-is_above.false in
+    let above-is : (K : KeyList) (w : Path) → Table c.args.keys.now.text.now c.args.keys.now.table.now c.args.keys.now.paths K → place_of K w ≡ c.args.place → above K w ≡ true = λ K w a b. sym (c.is_above.ensures c.args.keys.now.text.now K w a b) ∙ c.if-not-is_above.false in
     let way : Way c.args.archive.now.src.now c.args.archive.now.tape.now c.loop-p.p c.args.hi c.args.version.now.src.now c.args.version.now.tape.now c.loop-p.q c.args.vhi c.args.n c.requires.0.key_list c.requires.0.path c.requires.0.times (add_in c.requires.0.key_list c.args.n c.requires.0.path c.requires.0.times c.requires.0.forest c.requires.0.other) c.requires.0.forest c.args.out.now c.args.at c.loop-p.to c.loop-p.out c.loop-p.fresh = let h = c.requires.0 in c.loop-p.invariant.5 h.key_list h.path h.times h.forest h.other h.held (above-is h.key_list h.path h.held.tabled h.held.place_is) in
     let matched : c.loop-p.q < c.args.vhi = let x = way in let h = c.requires.0.held in let e = equal _ _ _ _ _ x h.tabled h.place_is in there x c.loop-p-test.true (λ z. omega (arith, e, z)) in
     let grown : Grew c.loop-p.out c.loop-p.to (both_part c.args.n (next_of (way) c.loop-p-test.true).own (next_of (way) c.loop-p-test.true).name (inside c.requires.0.key_list c.args.n (c.requires.0.path ▸ (next_of (way) c.loop-p-test.true).name) (set_in c.args.n c.requires.0.times (next_of (way) c.loop-p-test.true).own) (next_of (way) c.loop-p-test.true).kids (other_of (way) (matched)).kids)) (sibling (next_of (way) c.loop-p-test.true).own (next_of (way) c.loop-p-test.true).name (next_of (way) c.loop-p-test.true).kids) (next_at c.args.version.now.tape.now c.loop-p.q - c.loop-p.q) (262144 * (next_at c.args.archive.now.tape.now c.loop-p.p - c.loop-p.p + (next_at c.args.version.now.tape.now c.loop-p.q - c.loop-p.q))) (record { at = c.loop-p.to + c.write_both-x.result.at; fresh = c.write_both-x.result.fresh }) (put_mid c.least-from.result (length c.loop-p.out - c.least-from.result) c.loop-p.out c.write_both-x.new.out) = let x = way in let l = c.loop-p-test.true in let i = matched in let h = c.requires.0 in grew-lent c.loop-p.out c.loop-p.to c.least-from.result c.least-from.ensures (c.write_both-x.ensures h.key_list h.path h.times (next_of x l).own (next_of x l).name (next_of x l).kids (other_of x i).kids (both_of x l i (equal _ _ _ _ _ x h.held.tabled h.held.place_is) h.held.tabled (c.own_place-own.ensures h.key_list h.path h.held.tabled h.held.place_is) h.held.set)) in
@@ -271,7 +271,7 @@ write_added-overflow_add-fresh-in-Equal t c =
 pub write_added-loop-p-smaller : goal.write_added-loop-p-smaller
 write_added-loop-p-smaller t c =
     let equal : (K : KeyList) (w : Path) (u : Times) (whole first : Forest) (x : Way c.args.archive.now.src.now c.args.archive.now.tape.now c.loop-p.p c.args.hi c.args.version.now.src.now c.args.version.now.tape.now c.loop-p.q c.args.vhi c.args.n K w u whole first c.args.out.now c.args.at c.loop-p.to c.loop-p.out c.loop-p.fresh) → Table c.args.keys.now.text.now c.args.keys.now.table.now c.args.keys.now.paths K → place_of K w ≡ c.args.place → order_at x c.loop-p-test.true ≡ 1 = λ K w u whole first x a b. let l = c.loop-p-test.true in order-at x l (c.own_place-own.ensures K w a b) (c.order_of.ensures K w a) ∙ ap ordering_index c.in-Equal.is in
-    let above-is : (K : KeyList) (w : Path) → Table c.args.keys.now.text.now c.args.keys.now.table.now c.args.keys.now.paths K → place_of K w ≡ c.args.place → above K w ≡ true = λ K w a b. sym (c.is_above.ensures K w a b) ∙ c.if-not-is_above.false in
+    let above-is : (K : KeyList) (w : Path) → Table c.args.keys.now.text.now c.args.keys.now.table.now c.args.keys.now.paths K → place_of K w ≡ c.args.place → above K w ≡ true = λ K w a b. sym (c.is_above.ensures c.args.keys.now.text.now K w a b) ∙ c.if-not-is_above.false in
     let way : Way c.args.archive.now.src.now c.args.archive.now.tape.now c.loop-p.p c.args.hi c.args.version.now.src.now c.args.version.now.tape.now c.loop-p.q c.args.vhi c.args.n c.requires.0.key_list c.requires.0.path c.requires.0.times (add_in c.requires.0.key_list c.args.n c.requires.0.path c.requires.0.times c.requires.0.forest c.requires.0.other) c.requires.0.forest c.args.out.now c.args.at c.loop-p.to c.loop-p.out c.loop-p.fresh = let h = c.requires.0 in c.loop-p.invariant.5 h.key_list h.path h.times h.forest h.other h.held (above-is h.key_list h.path h.held.tabled h.held.place_is) in
     let matched : c.loop-p.q < c.args.vhi = let x = way in let h = c.requires.0.held in let e = equal _ _ _ _ _ x h.tabled h.place_is in there x c.loop-p-test.true (λ z. omega (arith, e, z)) in
     let g = front way.tape c.loop-p-test.true in
@@ -281,7 +281,7 @@ write_added-loop-p-smaller t c =
 pub write_added-loop-p-preserved : goal.write_added-loop-p-preserved
 write_added-loop-p-preserved t c =
     let equal : (K : KeyList) (w : Path) (u : Times) (whole first : Forest) (x : Way c.args.archive.now.src.now c.args.archive.now.tape.now c.loop-p.p c.args.hi c.args.version.now.src.now c.args.version.now.tape.now c.loop-p.q c.args.vhi c.args.n K w u whole first c.args.out.now c.args.at c.loop-p.to c.loop-p.out c.loop-p.fresh) → Table c.args.keys.now.text.now c.args.keys.now.table.now c.args.keys.now.paths K → place_of K w ≡ c.args.place → order_at x c.loop-p-test.true ≡ 1 = λ K w u whole first x a b. let l = c.loop-p-test.true in order-at x l (c.own_place-own.ensures K w a b) (c.order_of.ensures K w a) ∙ ap ordering_index c.in-Equal.is in
-    let above-is : (K : KeyList) (w : Path) → Table c.args.keys.now.text.now c.args.keys.now.table.now c.args.keys.now.paths K → place_of K w ≡ c.args.place → above K w ≡ true = λ K w a b. sym (c.is_above.ensures K w a b) ∙ c.if-not-is_above.false in
+    let above-is : (K : KeyList) (w : Path) → Table c.args.keys.now.text.now c.args.keys.now.table.now c.args.keys.now.paths K → place_of K w ≡ c.args.place → above K w ≡ true = λ K w a b. sym (c.is_above.ensures c.args.keys.now.text.now K w a b) ∙ c.if-not-is_above.false in
     let way : Way c.args.archive.now.src.now c.args.archive.now.tape.now c.loop-p.p c.args.hi c.args.version.now.src.now c.args.version.now.tape.now c.loop-p.q c.args.vhi c.args.n c.requires.0.key_list c.requires.0.path c.requires.0.times (add_in c.requires.0.key_list c.args.n c.requires.0.path c.requires.0.times c.requires.0.forest c.requires.0.other) c.requires.0.forest c.args.out.now c.args.at c.loop-p.to c.loop-p.out c.loop-p.fresh = let h = c.requires.0 in c.loop-p.invariant.5 h.key_list h.path h.times h.forest h.other h.held (above-is h.key_list h.path h.held.tabled h.held.place_is) in
     let matched : c.loop-p.q < c.args.vhi = let x = way in let h = c.requires.0.held in let e = equal _ _ _ _ _ x h.tabled h.place_is in there x c.loop-p-test.true (λ z. omega (arith, e, z)) in
     let grown : Grew c.loop-p.out c.loop-p.to (both_part c.args.n (next_of (way) c.loop-p-test.true).own (next_of (way) c.loop-p-test.true).name (inside c.requires.0.key_list c.args.n (c.requires.0.path ▸ (next_of (way) c.loop-p-test.true).name) (set_in c.args.n c.requires.0.times (next_of (way) c.loop-p-test.true).own) (next_of (way) c.loop-p-test.true).kids (other_of (way) (matched)).kids)) (sibling (next_of (way) c.loop-p-test.true).own (next_of (way) c.loop-p-test.true).name (next_of (way) c.loop-p-test.true).kids) (next_at c.args.version.now.tape.now c.loop-p.q - c.loop-p.q) (262144 * (next_at c.args.archive.now.tape.now c.loop-p.p - c.loop-p.p + (next_at c.args.version.now.tape.now c.loop-p.q - c.loop-p.q))) (record { at = c.loop-p.to + c.write_both-x.result.at; fresh = c.write_both-x.result.fresh }) (put_mid c.least-from.result (length c.loop-p.out - c.least-from.result) c.loop-p.out c.write_both-x.new.out) = let x = way in let l = c.loop-p-test.true in let i = matched in let h = c.requires.0 in grew-lent c.loop-p.out c.loop-p.to c.least-from.result c.least-from.ensures (c.write_both-x.ensures h.key_list h.path h.times (next_of x l).own (next_of x l).name (next_of x l).kids (other_of x i).kids (both_of x l i (equal _ _ _ _ _ x h.held.tabled h.held.place_is) h.held.tabled (c.own_place-own.ensures h.key_list h.path h.held.tabled h.held.place_is) h.held.set)) in
@@ -305,14 +305,14 @@ write_added-loop-p-preserved t c =
 
 pub write_added-write_new-last-requires : goal.write_added-write_new-last-requires
 write_added-write_new-last-requires t c =
-    let above-is : (K : KeyList) (w : Path) → Table c.args.keys.now.text.now c.args.keys.now.table.now c.args.keys.now.paths K → place_of K w ≡ c.args.place → above K w ≡ true = λ K w a b. sym (c.is_above.ensures K w a b) ∙ c.if-not-is_above.false in
+    let above-is : (K : KeyList) (w : Path) → Table c.args.keys.now.text.now c.args.keys.now.table.now c.args.keys.now.paths K → place_of K w ≡ c.args.place → above K w ≡ true = λ K w a b. sym (c.is_above.ensures c.args.keys.now.text.now K w a b) ∙ c.if-not-is_above.false in
     let way : Way c.args.archive.now.src.now c.args.archive.now.tape.now c.loop-p.p c.args.hi c.args.version.now.src.now c.args.version.now.tape.now c.loop-p.q c.args.vhi c.args.n c.requires.0.key_list c.requires.0.path c.requires.0.times (add_in c.requires.0.key_list c.args.n c.requires.0.path c.requires.0.times c.requires.0.forest c.requires.0.other) c.requires.0.forest c.args.out.now c.args.at c.loop-p.to c.loop-p.out c.loop-p.fresh = let h = c.requires.0 in c.loop-p.invariant.5 h.key_list h.path h.times h.forest h.other h.held (above-is h.key_list h.path h.held.tabled h.held.place_is) in
     let x = way in
     (c.requires.1, record { forest = x.other; tape = x.vtape }, c.requires.3, omega (arith, c.loop-p.invariant.2, c.requires.4))
 
 pub write_added-overflow_sub-result : goal.write_added-overflow_sub-result
 write_added-overflow_sub-result t c =
-    let above-is : (K : KeyList) (w : Path) → Table c.args.keys.now.text.now c.args.keys.now.table.now c.args.keys.now.paths K → place_of K w ≡ c.args.place → above K w ≡ true = λ K w a b. sym (c.is_above.ensures K w a b) ∙ c.if-not-is_above.false in
+    let above-is : (K : KeyList) (w : Path) → Table c.args.keys.now.text.now c.args.keys.now.table.now c.args.keys.now.paths K → place_of K w ≡ c.args.place → above K w ≡ true = λ K w a b. sym (c.is_above.ensures c.args.keys.now.text.now K w a b) ∙ c.if-not-is_above.false in
     let way : Way c.args.archive.now.src.now c.args.archive.now.tape.now c.loop-p.p c.args.hi c.args.version.now.src.now c.args.version.now.tape.now c.loop-p.q c.args.vhi c.args.n c.requires.0.key_list c.requires.0.path c.requires.0.times (add_in c.requires.0.key_list c.args.n c.requires.0.path c.requires.0.times c.requires.0.forest c.requires.0.other) c.requires.0.forest c.args.out.now c.args.at c.loop-p.to c.loop-p.out c.loop-p.fresh = let h = c.requires.0 in c.loop-p.invariant.5 h.key_list h.path h.times h.forest h.other h.held (above-is h.key_list h.path h.held.tabled h.held.place_is) in
     tape-le way.vtape
 
@@ -321,14 +321,14 @@ write_added-overflow_add-result t c = omega (arith, c.loop-p.invariant.3, c.requ
 
 pub write_added-shape_of-out : goal.write_added-shape_of-out
 write_added-shape_of-out t c =
-    let above-is : (K : KeyList) (w : Path) → Table c.args.keys.now.text.now c.args.keys.now.table.now c.args.keys.now.paths K → place_of K w ≡ c.args.place → above K w ≡ true = λ K w a b. sym (c.is_above.ensures K w a b) ∙ c.if-not-is_above.false in
+    let above-is : (K : KeyList) (w : Path) → Table c.args.keys.now.text.now c.args.keys.now.table.now c.args.keys.now.paths K → place_of K w ≡ c.args.place → above K w ≡ true = λ K w a b. sym (c.is_above.ensures c.args.keys.now.text.now K w a b) ∙ c.if-not-is_above.false in
     let way : Way c.args.archive.now.src.now c.args.archive.now.tape.now c.loop-p.p c.args.hi c.args.version.now.src.now c.args.version.now.tape.now c.loop-p.q c.args.vhi c.args.n c.requires.0.key_list c.requires.0.path c.requires.0.times (add_in c.requires.0.key_list c.args.n c.requires.0.path c.requires.0.times c.requires.0.forest c.requires.0.other) c.requires.0.forest c.args.out.now c.args.at c.loop-p.to c.loop-p.out c.loop-p.fresh = let h = c.requires.0 in c.loop-p.invariant.5 h.key_list h.path h.times h.forest h.other h.held (above-is h.key_list h.path h.held.tabled h.held.place_is) in
     let x = way in
     ap length (c.write_new-last.ensures.0 c.requires.0.key_list c.requires.0.path x.other x.vtape x.version).bytes ∙ length_at _ _ _ ∙ c.loop-p.invariant.4
 
 pub write_added-returns : goal.write_added-returns
 write_added-returns t c K w u f v g =
-    let above-is : (K : KeyList) (w : Path) → Table c.args.keys.now.text.now c.args.keys.now.table.now c.args.keys.now.paths K → place_of K w ≡ c.args.place → above K w ≡ true = λ K w a b. sym (c.is_above.ensures K w a b) ∙ c.if-not-is_above.false in
+    let above-is : (K : KeyList) (w : Path) → Table c.args.keys.now.text.now c.args.keys.now.table.now c.args.keys.now.paths K → place_of K w ≡ c.args.place → above K w ≡ true = λ K w a b. sym (c.is_above.ensures c.args.keys.now.text.now K w a b) ∙ c.if-not-is_above.false in
     let a = above-is K w g.tabled g.place_is in
     let x = c.loop-p.invariant.5 K w u f v g a in
     let y = way-done x c.loop-p-test.false (c.write_new-last.ensures.0 K w x.other x.vtape x.version) in

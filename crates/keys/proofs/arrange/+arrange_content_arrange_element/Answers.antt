@@ -21,7 +21,7 @@ arrange_content-is_above-requires t c = c.requires.0.tabled.held
 
 pub arrange_content-copy-requires : goal.arrange_content-copy-requires
 arrange_content-copy-requires t c =
-    let low : OfPlace c.args.keys.now.text.now c.args.keys.now.table.now c.args.keys.now.paths c.args.place (λ K o. above K o ≡ false) = λ K o u e. sym (c.is_above.ensures K o u e) ∙ c.if-not-is_above.true in
+    let low : OfPlace c.args.keys.now.text.now c.args.keys.now.table.now c.args.keys.now.paths c.args.place (λ K o. above K o ≡ false) = λ K o u e. sym (c.is_above.ensures c.args.keys.now.text.now K o u e) ∙ c.if-not-is_above.true in
     let few : c.args.m + c.args.hi ≤ 512 + c.args.lo = let g = c.requires.0 in fit-few g (low g.key_list g.path g.tabled g.place_is) in
     (fit-linked c.requires.0, few, c.requires.1)
 
@@ -30,7 +30,7 @@ arrange_content-shape_of-out-then-not-is_above t c = c.copy.ensures.size
 
 pub arrange_content-returns-then-not-is_above : goal.arrange_content-returns-then-not-is_above
 arrange_content-returns-then-not-is_above t c =
-    let low : OfPlace c.args.keys.now.text.now c.args.keys.now.table.now c.args.keys.now.paths c.args.place (λ K o. above K o ≡ false) = λ K o u e. sym (c.is_above.ensures K o u e) ∙ c.if-not-is_above.true in
+    let low : OfPlace c.args.keys.now.text.now c.args.keys.now.table.now c.args.keys.now.paths c.args.place (λ K o. above K o ≡ false) = λ K o u e. sym (c.is_above.ensures c.args.keys.now.text.now K o u e) ∙ c.if-not-is_above.true in
     let few : c.args.m + c.args.hi ≤ 512 + c.args.lo = let g = c.requires.0 in fit-few g (low g.key_list g.path g.tabled g.place_is) in
     content-copied c.requires.0 c.args.out.now low c.copy.ensures few c.requires.1
 
@@ -39,13 +39,13 @@ arrange_content-order_in-requires t c = (fit-checked c.requires.0, fit-few-tags 
 
 pub arrange_content-returns-in_err-k : goal.arrange_content-returns-in_err-k
 arrange_content-returns-in_err-k t c =
-    let high : above c.requires.0.key_list c.requires.0.path ≡ true = let g = c.requires.0 in sym (c.is_above.ensures g.key_list g.path g.tabled g.place_is) ∙ c.if-not-is_above.false in
+    let high : above c.requires.0.key_list c.requires.0.path ≡ true = let g = c.requires.0 in sym (c.is_above.ensures c.args.keys.now.text.now g.key_list g.path g.tabled g.place_is) ∙ c.if-not-is_above.false in
     let listed : Sorted c.requires.0.key_list c.requires.0.path c.args.doc.now.src.now c.args.doc.now.tape.now c.args.lo c.args.hi c.order_in.new.order c.requires.0.forest c.order_in.result = let g = c.requires.0 in c.order_in.ensures.sorted g.key_list g.path g.tabled g.place_is g.forest g.tape in
     rw c.from_residual.ensures (fit-twice c.requires.0 c.args.out.now c.order_in.new.order c.order_in.result high listed c.in_err-k.was)
 
 pub arrange_content-loop-j-init : goal.arrange_content-loop-j-init
 arrange_content-loop-j-init t c =
-    let high : above c.requires.0.key_list c.requires.0.path ≡ true = let g = c.requires.0 in sym (c.is_above.ensures g.key_list g.path g.tabled g.place_is) ∙ c.if-not-is_above.false in
+    let high : above c.requires.0.key_list c.requires.0.path ≡ true = let g = c.requires.0 in sym (c.is_above.ensures c.args.keys.now.text.now g.key_list g.path g.tabled g.place_is) ∙ c.if-not-is_above.false in
     let listed : Sorted c.requires.0.key_list c.requires.0.path c.args.doc.now.src.now c.args.doc.now.tape.now c.args.lo c.args.hi c.order_in.new.order c.requires.0.forest c.order_in.result = let g = c.requires.0 in c.order_in.ensures.sorted g.key_list g.path g.tabled g.place_is g.forest g.tape in
     progress_start c.requires.0 c.args.out.now c.order_in.new.order c.order_in.result high listed _ c.in_ok-k.was
 

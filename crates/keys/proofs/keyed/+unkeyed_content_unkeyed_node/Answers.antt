@@ -76,7 +76,7 @@ unkeyed_node-returns-then-not-is_above t c K q s e f h = let v = c.view-v.ensure
     let d = rw (c.part.ensures, v) at c.child-below.ensures in
     let o = rw v at c.lacks_key.ensures in
     let n = q ▸ bytes_at c.args.doc.now.src.now c.args.doc.now.tape.now c.args.p in
-    sym (keyless-inside K q (i.element k) (sym (o K n s (sym (d K q s e)) i.kids i.tape) ∙ c.if-lacks_key.false) ∙ keyless-under K n i.kids (sym (c.is_above.ensures K n s (sym (d K q s e))) ∙ c.if-not-is_above.true))
+    sym (keyless-inside K q (i.element k) (sym (o K n s (sym (d K q s e)) i.kids i.tape) ∙ c.if-lacks_key.false) ∙ keyless-under K n i.kids (sym (c.is_above.ensures c.args.keys.now.text.now K n s (sym (d K q s e))) ∙ c.if-not-is_above.true))
 
 pub unkeyed_node-overflow_add-p-2 : goal.unkeyed_node-overflow_add-p-2
 unkeyed_node-overflow_add-p-2 t c = omega (arith, (walk-front c.requires.1 c.requires.0).held, c.well_formed)

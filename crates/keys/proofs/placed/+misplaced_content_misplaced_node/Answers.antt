@@ -49,7 +49,7 @@ misplaced_node-is_above-requires t c = c.requires.1.placed.table.held
 pub misplaced_node-returns-then-not-is_above : goal.misplaced_node-returns-then-not-is_above
 misplaced_node-returns-then-not-is_above t c K q s e f h = let b = unescape 0 (bytes_at c.args.doc.now.src.now c.args.doc.now.tape.now c.args.p) in
     let k = rw c.view-v.ensures at c.if-v-eq0.true in
-    sym (astray-under K q b (text-node h c.requires.0 k) (sym (c.is_above.ensures K q s e) ∙ c.if-not-is_above.true))
+    sym (astray-under K q b (text-node h c.requires.0 k) (sym (c.is_above.ensures c.args.keys.now.text.now K q s e) ∙ c.if-not-is_above.true))
 
 pub misplaced_node-part-requires : goal.misplaced_node-part-requires
 misplaced_node-part-requires t c = rw c.view-v.ensures (omega arith, omega (arith, (walk-front c.requires.1 c.requires.0).within))
@@ -58,7 +58,7 @@ pub misplaced_node-returns-then-v-eq0 : goal.misplaced_node-returns-then-v-eq0
 misplaced_node-returns-then-v-eq0 t c K q s e f h = let b = unescape 0 (bytes_at c.args.doc.now.src.now c.args.doc.now.tape.now c.args.p) in
     let k = rw c.view-v.ensures at c.if-v-eq0.true in
     ap not (rw (c.part.ensures, c.view-v.ensures) at c.is_white.ensures)
-    ∙ sym (astray-run K q b (text-node h c.requires.0 k) (sym (c.is_above.ensures K q s e) ∙ c.if-not-is_above.false))
+    ∙ sym (astray-run K q b (text-node h c.requires.0 k) (sym (c.is_above.ensures c.args.keys.now.text.now K q s e) ∙ c.if-not-is_above.false))
 
 pub misplaced_node-returns-then-v-ne1 : goal.misplaced_node-returns-then-v-ne1
 misplaced_node-returns-then-v-ne1 t c K q s e f h = let v = c.view-v.ensures in

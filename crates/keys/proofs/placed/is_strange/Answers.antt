@@ -12,9 +12,9 @@ returns-then-same_bytes c K p t e d = sym (strange-named K p c.args.name.now (sy
 pub returns-then-not-is_above : goal.returns-then-not-is_above
 unfolding bytes_compute
 returns-then-not-is_above c K p t e d = sym (strange-under K p c.args.name.now (sym c.same_bytes.ensures ∙ c.if-same_bytes.false)
-    (sym (c.is_above.ensures K p t e) ∙ c.if-not-is_above.true))
+    (sym (c.is_above.ensures c.args.keys.now.text.now K p t e) ∙ c.if-not-is_above.true))
 
 pub returns : goal.returns
 unfolding bytes_compute
 returns c K p t e d = strange-below K p c.args.name.now (table-rules t) (sym c.same_bytes.ensures ∙ c.if-same_bytes.false)
-    (sym (c.is_above.ensures K p t e) ∙ c.if-not-is_above.false) d
+    (sym (c.is_above.ensures c.args.keys.now.text.now K p t e) ∙ c.if-not-is_above.false) d

@@ -39,7 +39,7 @@ element_legal-front_legal-requires t c = rw c.view-v.ensures (record { forest = 
 
 pub element_legal-returns-then-not-is_above : goal.element_legal-returns-then-not-is_above
 unfolding bytes
-element_legal-returns-then-not-is_above t c K q s z m k a b = let d = sym (rw (c.part.ensures, c.view-v.ensures, a.bytes-are) at (c.child-own.ensures K q s z)) in (rw c.view-v.ensures at c.front_legal.ensures) k _ b c.requires.only refl ∙ sym (element-front K _ q _ m k (λ y. c.if-own-eq129.false (sym d ∙ y)) (sym (rw (c.view-v.ensures, a.bytes-are) at (simp between_is at c.same_bytes.ensures)) ∙ c.if-same_bytes.false) (sym (c.is_above.ensures K (q ▸ m) s d) ∙ c.if-not-is_above.true))
+element_legal-returns-then-not-is_above t c K q s z m k a b = let d = sym (rw (c.part.ensures, c.view-v.ensures, a.bytes-are) at (c.child-own.ensures K q s z)) in (rw c.view-v.ensures at c.front_legal.ensures) k _ b c.requires.only refl ∙ sym (element-front K _ q _ m k (λ y. c.if-own-eq129.false (sym d ∙ y)) (sym (rw (c.view-v.ensures, a.bytes-are) at (simp between_is at c.same_bytes.ensures)) ∙ c.if-same_bytes.false) (sym (c.is_above.ensures c.args.keys.now.text.now K (q ▸ m) s d) ∙ c.if-not-is_above.true))
 
 pub element_legal-overflow_add-e-2 : goal.element_legal-overflow_add-e-2
 element_legal-overflow_add-e-2 t c = omega (arith, c.requires.node.held)
@@ -49,7 +49,7 @@ element_legal-has_keys-requires t c = rw c.view-v.ensures (walk-in c.requires (r
 
 pub element_legal-returns-then-not-has_keys : goal.element_legal-returns-then-not-has_keys
 unfolding bytes
-element_legal-returns-then-not-has_keys t c K q s z m k a b = let d = sym (rw (c.part.ensures, c.view-v.ensures, a.bytes-are) at (c.child-own.ensures K q s z)) in sym (element-lack K _ q _ m k (λ y. c.if-own-eq129.false (sym d ∙ y)) (sym (rw (c.view-v.ensures, a.bytes-are) at (simp between_is at c.same_bytes.ensures)) ∙ c.if-same_bytes.false) (sym (c.is_above.ensures K (q ▸ m) s d) ∙ c.if-not-is_above.false) (sym ((rw c.view-v.ensures at c.has_keys.ensures) K (q ▸ m) s d k b) ∙ c.if-not-has_keys.true))
+element_legal-returns-then-not-has_keys t c K q s z m k a b = let d = sym (rw (c.part.ensures, c.view-v.ensures, a.bytes-are) at (c.child-own.ensures K q s z)) in sym (element-lack K _ q _ m k (λ y. c.if-own-eq129.false (sym d ∙ y)) (sym (rw (c.view-v.ensures, a.bytes-are) at (simp between_is at c.same_bytes.ensures)) ∙ c.if-same_bytes.false) (sym (c.is_above.ensures c.args.keys.now.text.now K (q ▸ m) s d) ∙ c.if-not-is_above.false) (sym ((rw c.view-v.ensures at c.has_keys.ensures) K (q ▸ m) s d k b) ∙ c.if-not-has_keys.true))
 
 pub element_legal-overflow_add-e-3 : goal.element_legal-overflow_add-e-3
 element_legal-overflow_add-e-3 t c = omega (arith, c.requires.node.held, c.well_formed)
@@ -59,7 +59,7 @@ element_legal-siblings_legal-requires t c = rw c.view-v.ensures (omega (arith, c
 
 pub element_legal-returns : goal.element_legal-returns
 unfolding bytes
-element_legal-returns t c K q s z m k a b = let d = sym (rw (c.part.ensures, c.view-v.ensures, a.bytes-are) at (c.child-own.ensures K q s z)) in (rw c.view-v.ensures at c.siblings_legal.ensures) K (q ▸ m) s d k b ∙ sym (element-inside K _ q _ m k (λ y. c.if-own-eq129.false (sym d ∙ y)) (sym (rw (c.view-v.ensures, a.bytes-are) at (simp between_is at c.same_bytes.ensures)) ∙ c.if-same_bytes.false) (sym (c.is_above.ensures K (q ▸ m) s d) ∙ c.if-not-is_above.false) (sym ((rw c.view-v.ensures at c.has_keys.ensures) K (q ▸ m) s d k b) ∙ c.if-not-has_keys.false))
+element_legal-returns t c K q s z m k a b = let d = sym (rw (c.part.ensures, c.view-v.ensures, a.bytes-are) at (c.child-own.ensures K q s z)) in (rw c.view-v.ensures at c.siblings_legal.ensures) K (q ▸ m) s d k b ∙ sym (element-inside K _ q _ m k (λ y. c.if-own-eq129.false (sym d ∙ y)) (sym (rw (c.view-v.ensures, a.bytes-are) at (simp between_is at c.same_bytes.ensures)) ∙ c.if-same_bytes.false) (sym (c.is_above.ensures c.args.keys.now.text.now K (q ▸ m) s d) ∙ c.if-not-is_above.false) (sym ((rw c.view-v.ensures at c.has_keys.ensures) K (q ▸ m) s d k b) ∙ c.if-not-has_keys.false))
 
 pub siblings_legal-loop-p-init : goal.siblings_legal-loop-p-init
 siblings_legal-loop-p-init t c = (omega arith, c.requires.0, λ K q s z f h. legally-start h)

@@ -16,17 +16,17 @@ loop-j-init c K p t e f h = keys-start K p f
 
 pub overflow_add-place : goal.overflow_add-place
 overflow_add-place c =
-    let row : c.args.place + 1 + c.loop-j.j < c.args.keys.now.paths = let a = c.requires.placed in key-room a.table a.path _ a.place_is c.loop-j.j (omega (arith, c.key_count-count.ensures a.key_list a.path a.table a.place_is, c.loop-j-test.true)) in
+    let row : c.args.place + 1 + c.loop-j.j < c.args.keys.now.paths = let a = c.requires.placed in key-room a.table a.path _ a.place_is c.loop-j.j (omega (arith, c.key_count-count.ensures c.args.keys.now.text.now a.key_list a.path a.table a.place_is, c.loop-j-test.true)) in
     let a = c.requires.placed in omega (arith, a.table.few, row)
 
 pub overflow_add-place-in-loop-j : goal.overflow_add-place-in-loop-j
 overflow_add-place-in-loop-j c =
-    let row : c.args.place + 1 + c.loop-j.j < c.args.keys.now.paths = let a = c.requires.placed in key-room a.table a.path _ a.place_is c.loop-j.j (omega (arith, c.key_count-count.ensures a.key_list a.path a.table a.place_is, c.loop-j-test.true)) in
+    let row : c.args.place + 1 + c.loop-j.j < c.args.keys.now.paths = let a = c.requires.placed in key-room a.table a.path _ a.place_is c.loop-j.j (omega (arith, c.key_count-count.ensures c.args.keys.now.text.now a.key_list a.path a.table a.place_is, c.loop-j-test.true)) in
     let a = c.requires.placed in omega (arith, a.table.few, row)
 
 pub key_name-name-requires : goal.key_name-name-requires
 key_name-name-requires c =
-    let row : c.args.place + 1 + c.loop-j.j < c.args.keys.now.paths = let a = c.requires.placed in key-room a.table a.path _ a.place_is c.loop-j.j (omega (arith, c.key_count-count.ensures a.key_list a.path a.table a.place_is, c.loop-j-test.true)) in
+    let row : c.args.place + 1 + c.loop-j.j < c.args.keys.now.paths = let a = c.requires.placed in key-room a.table a.path _ a.place_is c.loop-j.j (omega (arith, c.key_count-count.ensures c.args.keys.now.text.now a.key_list a.path a.table a.place_is, c.loop-j-test.true)) in
     let a = c.requires.placed in omega (arith, a.table.held, row)
 
 pub has_key-requires : goal.has_key-requires
@@ -34,18 +34,18 @@ has_key-requires c = c.requires.valid
 
 pub part-requires : goal.part-requires
 part-requires c = let a = c.requires.placed in
-    let l : c.loop-j.j < length (key_names_at a.key_list a.path) = omega (arith, c.key_count-count.ensures a.key_list a.path a.table a.place_is, c.loop-j-test.true) in
+    let l : c.loop-j.j < length (key_names_at a.key_list a.path) = omega (arith, c.key_count-count.ensures c.args.keys.now.text.now a.key_list a.path a.table a.place_is, c.loop-j-test.true) in
     let w = key-within a.table a.path _ a.place_is c.loop-j.j l in
     (rw c.key_name-name.ensures (omega arith), rw c.key_name-name.ensures w)
 
 pub returns-then-not-has_key : goal.returns-then-not-has_key
-returns-then-not-has_key c K p t e f h = let l : c.loop-j.j < length (key_names_at K p) = omega (arith, c.key_count-count.ensures K p t e, c.loop-j-test.true) in
+returns-then-not-has_key c K p t e f h = let l : c.loop-j.j < length (key_names_at K p) = omega (arith, c.key_count-count.ensures c.args.keys.now.text.now K p t e, c.loop-j-test.true) in
     sym (c.loop-j.invariant K p t e f h ∙ keys-lack K p t e c.loop-j.j l f (rw (c.part.ensures, c.key_name-name.ensures) at (c.has_key.ensures f h)) c.if-not-has_key.true)
 
 pub loop-j-preserved : goal.loop-j-preserved
 loop-j-preserved c K p t e f h =
-    let l : c.loop-j.j < length (key_names_at K p) = omega (arith, c.key_count-count.ensures K p t e, c.loop-j-test.true) in
+    let l : c.loop-j.j < length (key_names_at K p) = omega (arith, c.key_count-count.ensures c.args.keys.now.text.now K p t e, c.loop-j-test.true) in
     c.loop-j.invariant K p t e f h ∙ keys-more K p t e c.loop-j.j l f (rw (c.part.ensures, c.key_name-name.ensures) at (c.has_key.ensures f h)) c.if-not-has_key.false
 
 pub returns : goal.returns
-returns c K p t e f h = sym (c.loop-j.invariant K p t e f h ∙ keys-done K p f c.loop-j.j (omega (arith, c.key_count-count.ensures K p t e, c.loop-j-test.false)))
+returns c K p t e f h = sym (c.loop-j.invariant K p t e f h ∙ keys-done K p f c.loop-j.j (omega (arith, c.key_count-count.ensures c.args.keys.now.text.now K p t e, c.loop-j-test.false)))

@@ -2,12 +2,12 @@
 -- (Closes). Assumes nothing.
 use mathlib.Core.Path.{sym, ◌∙◌}
 use native.Mathlib.Omega.{arith}
-use Rattle.xml.proofs.Closes.{opening, outside, outside-white, outside-other, outside-second, opening-root}
+use Rattle.xml.proofs.Closes.{opening, outside, outside-whites, outside-other, outside-second, opening-root}
 use Rattle.xml.proofs.reader.advance.Goals.{then-from-gt0-2+else-byte_at-eq47, else-from-gt0-2+else-from-gt0-3}
 use Rattle.xml.proofs.reader.advance.Goals as goal
 
 pub returns-then-is_white_byte : goal.returns-then-is_white_byte
-returns-then-is_white_byte c = outside-white (outside c.requires c.if-from-gt0.false) (sym c.is_white_byte.ensures ∙ c.if-is_white_byte.true)
+returns-then-is_white_byte c = outside-whites (outside c.requires c.if-from-gt0.false) (sym c.is_white_byte.ensures ∙ c.if-is_white_byte.true) c.pass_bytes.ensures.passed
 
 pub returns-then-b-ne60 : goal.returns-then-b-ne60
 returns-then-b-ne60 c = outside-other (outside c.requires c.if-from-gt0.false) (sym c.is_white_byte.ensures ∙ c.if-is_white_byte.false) c.if-b-ne60.true

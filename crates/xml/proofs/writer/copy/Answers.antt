@@ -1,12 +1,19 @@
--- `xml::writer::copy` meets its contract: the bytes take the place of as many. Assumes nothing.
-use Prim.Native.Nat.{◌+◌, ◌-◌}
+-- `xml::writer::copy` meets its contract: so many bytes were copied. Assumes nothing.
+use Prim.Native.Nat.{◌+◌}
 use native.Mathlib.Omega.{arith}
 use mathlib.Core.Path.{◌≡◌, sym}
 use lib.ListN.{length}
-use Rattle.xml.specs.OverLaws.{at-fits}
+use lib.Seq.{slice_empty}
+use Rattle.xml.specs.OverLaws.{at-nil}
+use Rattle.xml.specs.WriteLaws.{part_step}
 use Rattle.xml.proofs.writer.copy.Goals as goal
 
-pub returns : goal.returns
-returns c = let a = c.args in
-    let n : a.from + length a.word.now - a.from ≡ length a.word.now = omega arith in
-    rw (n, c.copy_from_slice.ensures.after) (sym (at-fits a.out.now a.from a.word.now c.requires))
+pub loop-i-init : goal.loop-i-init
+loop-i-init c = sym (rw (slice_empty 0) (at-nil c.args.out.now c.args.from))
+
+pub loop-i-preserved : goal.loop-i-preserved
+loop-i-preserved c = let a = c.args in
+    let w = c.loop-i in
+    let z : 0 + w.i ≡ w.i = omega arith in
+    let y : 0 + (w.i + 1) ≡ w.i + 1 = omega arith in
+    rw (z, y) at (part_step a.out.now a.word.now a.from 0 (length a.word.now) (omega arith) (omega arith) a.from w.i w.out (omega arith) (rw z w.invariant))
